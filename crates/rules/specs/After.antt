@@ -1,0 +1,131 @@
+-- Document 01, "Checks after the positive, in order", the data handed out, the number of calls 11 and 12, and the session timing of call 1.
+use Prim.Native.Nat.{ℕ, _+_, _*_, _/_, _%_, _^_}
+use mathlib.Core.Bool.{Bool, true, cond, _&&_, _||_}
+use mathlib.Core.List.{List, [], _∷_, _++_}
+use mathlib.Core.Option.{Option, none, some}
+use lib.Dec.{leb, ltb, eqb}
+use lib.ListN.{length, getD, take, drop}
+use Rattle.rules.specs.Answers.{Part, part, behind, Fault, deviation, overflow, lengthError, Outcome, positive, fault, ifPositive, Answer}
+use Rattle.rules.specs.Bytes.{value, u16At, same}
+use Rattle.rules.specs.Calls.{Call, request, session, reset, security, testerPresent, readMemory, writeMemory, readIdentifier, writeIdentifier, faultCount, routine, download, upload, transfer, transferExit, sent, format, numbered, head}
+use Rattle.rules.specs.Checks.{Check, unless, judge, inStrict}
+use Rattle.rules.specs.Settings.{Timing}
+
+-- "Strict bounds of total length": (least, most), or (least, none).
+abbrev pub most : Option ℕ → ℕ → Bool
+most none n = true
+most (some k) n = leb n k
+
+abbrev pub bounds : Bool → ℕ → Option ℕ → List ℕ → Check Fault
+bounds m least upper r = unless (inStrict m (leb least (length r) && most upper (length r))) (lengthError m least upper)
+
+abbrev pub exactly : Bool → ℕ → List ℕ → Check Fault
+exactly m n r = bounds m n (some n) r
+
+-- "Both modes then": so many bytes in all, else (least, none).
+abbrev pub atLeast : Bool → ℕ → List ℕ → Check Fault
+atLeast m least r = unless (leb least (length r)) (lengthError m least none)
+
+-- "Strict echoes": a test that is deviation n where it fails.
+abbrev pub strictly : Bool → Bool → ℕ → Check Fault
+strictly m t n = unless (inStrict m t) (deviation n)
+
+-- "2 (3, 3) or (2, 2)"
+abbrev pub resetLength : ℕ → ℕ
+resetLength sub = cond (eqb (sub % 128) 4) 3 2
+
+-- "13 (3 or 2, none)"
+abbrev pub transferLength : Option (List ℕ) → ℕ
+transferLength none = 3
+transferLength (some d) = 2
+
+-- Calls 11 and 12: n and the n bytes.
+abbrev pub lengthBytes : List ℕ → ℕ
+lengthBytes r = getD r 1 0 / 16
+
+abbrev pub blockLength : List ℕ → List ℕ
+blockLength r = take (lengthBytes r) (drop 2 r)
+
+abbrev pub loading : Bool → List ℕ → ℕ → ℕ → List (Check Fault)
+loading m r n v =
+    atLeast m 2 r ∷
+    strictly m (eqb (getD r 1 0 % 16) 0) 10 ∷
+    strictly m (ltb 0 n) 9 ∷
+    unless (leb (n + 2) (length r) && inStrict m (leb (length r) (n + 2))) (lengthError m (n + 2) (some (n + 2))) ∷
+    strictly m (leb 3 v) 11 ∷
+    unless (ltb v (2 ^ 64)) overflow ∷ []
+
+-- The checks of each call; r is the whole reply.
+abbrev pub checks : Bool → Call → List ℕ → List (Check Fault)
+checks m (request sid sub x) r = []
+checks m (session sub) r = exactly m 6 r ∷ []
+checks m (reset sub) r = exactly m (resetLength sub) r ∷ []
+checks m (security sub x) r = cond (eqb (sub % 2) 1) (bounds m 3 none r) (exactly m 2 r) ∷ []
+checks m testerPresent r = exactly m 2 r ∷ []
+checks m (readMemory a s) r =
+    strictly m (eqb (length (drop 1 r)) (value (sent s))) 15 ∷ unless (inStrict m (leb 2 (length r))) (lengthError m 2 none) ∷ []
+checks m (writeMemory a s x) r =
+    exactly m (2 + length (sent a) + length (sent s)) r ∷
+    strictly m (eqb (getD r 1 0) (format a s)) 12 ∷
+    strictly m (same (take (length (sent a)) (drop 2 r)) (sent a)) 13 ∷
+    strictly m (same (drop (length (sent a)) (drop 2 r)) (sent s)) 14 ∷ []
+checks m (readIdentifier id) r = bounds m 4 none r ∷ atLeast m 3 r ∷ strictly m (eqb (u16At r 1) id) 5 ∷ []
+checks m (writeIdentifier id x) r = exactly m 3 r ∷ atLeast m 3 r ∷ strictly m (eqb (u16At r 1) id) 5 ∷ []
+checks m (faultCount mask) r =
+    unless (leb 6 (length r) && inStrict m (eqb (length r) 6)) (lengthError m 6 (some 6)) ∷ []
+checks m (routine sub id x) r = atLeast m 4 r ∷ strictly m (eqb (u16At r 2) id) 6 ∷ []
+checks m (download c e a s) r = loading m r (lengthBytes r) (value (blockLength r))
+checks m (upload c e a s) r = loading m r (lengthBytes r) (value (blockLength r))
+checks m (transfer counter x) r =
+    bounds m (transferLength x) none r ∷ atLeast m 2 r ∷ strictly m (eqb (getD r 1 0) counter) 7 ∷ []
+checks m (transferExit x) r = []
+
+-- A part's first n bytes; the part if it has n bytes, and else none of it.
+abbrev pub first : ℕ → Part → Part
+first n p = part (p .at) (take n (p .bytes))
+
+abbrev pub only : ℕ → Part → Part
+only n p = first (cond (eqb (length (p .bytes)) n) n 0) p
+
+-- The data handed out of a reply. "In lenient, call 1 hands out its record only if exactly four bytes follow, call 2 its byte only if exactly one does, call 9 the first four, calls 5 and 6 all after the SID; the others as in the table. Call 0 hands out all after SID and sub-function."
+abbrev pub handed : Call → Part → Part
+handed (request sid sub x) p = behind (head sub) p
+handed (session sub) p = only 4 (behind 2 p)
+handed (reset sub) p = only 1 (behind 2 p)
+handed (security sub x) p = cond (eqb (sub % 2) 1) (behind 2 p) (first 0 (behind 2 p))
+handed testerPresent p = first 0 (behind 2 p)
+handed (readMemory a s) p = behind 1 p
+handed (writeMemory a s x) p = behind 1 p
+handed (readIdentifier id) p = behind 3 p
+handed (writeIdentifier id x) p = first 0 (behind 3 p)
+handed (faultCount mask) p = first 4 (behind 2 p)
+handed (routine sub id x) p = behind 4 p
+handed (download c e a s) p = first (lengthBytes (p .bytes)) (behind 2 p)
+handed (upload c e a s) p = first (lengthBytes (p .bytes)) (behind 2 p)
+handed (transfer counter x) p = behind 2 p
+handed (transferExit x) p = behind 1 p
+
+-- "The checks after a positive come later still and keep its finishing time."
+unfoldable pub checked : Bool → Call → Part → Outcome
+checked m c p = judge fault (checks m c (p .bytes)) (positive (handed c p))
+
+abbrev pub after : Bool → Call → Answer → Answer
+after m c x = record {
+  outcome = ifPositive (x .outcome) (λ d. checked m c (x .reply)) (x .outcome);
+  time = x .time;
+  events = x .events;
+  notices = x .notices;
+  reply = x .reply;
+}
+
+-- "They also return the value as a number; lenient n = 0 gives 0." Of the other calls, and of other outcomes, 0.
+abbrev pub numberOf : Call → Outcome → ℕ
+numberOf c o = cond (eqb (numbered c) 11 || eqb (numbered c) 12) (ifPositive o (λ d. value (d .bytes)) 0) 0
+
+-- "Call 1, answered positive with four data bytes and server timing on, sets the session's P2 to the first pair and P2* to ten times the second."
+abbrev pub adopted : List ℕ → Timing → Timing
+adopted d old = cond (eqb (length d) 4) (record { p2 = u16At d 0; star = u16At d 2 * 10 }) old
+
+-- "Nothing else sets it."
+abbrev pub timingOf : Bool → Call → Outcome → Timing → Timing
+timingOf serverTiming c o old = cond (eqb (numbered c) 1 && serverTiming) (ifPositive o (λ d. adopted (d .bytes) old) old) old

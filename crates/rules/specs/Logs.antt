@@ -1,0 +1,210 @@
+-- Document 01, "The log and `udslog`": the layout of a log, the call that it says, and the line that it gives.
+use Prim.Native.Nat.{ℕ, _+_, _-_, _*_, _/_, _%_}
+use mathlib.Core.Bool.{Bool, true, false, cond, _&&_, _||_}
+use mathlib.Core.List.{List, [], _∷_, _++_}
+use mathlib.Core.Option.{Option, none, some}
+use lib.Dec.{leb, eqb}
+use lib.ListN.{length, getD, take, drop, replicate}
+use Rattle.rules.specs.Bytes.{u16At, u32At, every}
+use Rattle.rules.specs.Calls.{Call, request, session, reset, security, testerPresent, readMemory, writeMemory, readIdentifier, writeIdentifier, faultCount, routine, download, upload, transfer, transferExit, Field, given, orNone}
+use Rattle.rules.specs.Client.{call}
+use Rattle.rules.specs.Events.{Entry, entries}
+use Rattle.rules.specs.Lines.{line, badlog}
+use Rattle.rules.specs.Settings.{Setting, Lent}
+
+-- "Header, 36 bytes", big-endian. Of an area: how many (bytes or events), and where it begins.
+pub record Header : Type 0 where
+  pub version : ℕ
+  pub call : ℕ
+  pub flags : ℕ
+  pub value : ℕ
+  pub sub : ℕ
+  pub addressLength : ℕ
+  pub sizeLength : ℕ
+  pub unused : ℕ
+  pub arguments : ℕ
+  pub argumentsAt : ℕ
+  pub events : ℕ
+  pub eventsAt : ℕ
+  pub replies : ℕ
+  pub repliesAt : ℕ
+  pub total : ℕ
+  pub p2 : ℕ
+  pub star : ℕ
+  pub limit : ℕ
+
+abbrev pub headerOf : List ℕ → Header
+headerOf l = record {
+  version = u16At l 0;
+  call = getD l 2 0;
+  flags = getD l 3 0;
+  value = u16At l 4;
+  sub = getD l 6 0;
+  addressLength = getD l 7 0;
+  sizeLength = getD l 8 0;
+  unused = getD l 9 0;
+  arguments = u16At l 10;
+  argumentsAt = u16At l 12;
+  events = u16At l 14;
+  eventsAt = u16At l 16;
+  replies = u16At l 18;
+  repliesAt = u16At l 20;
+  total = u16At l 22;
+  p2 = u32At l 24;
+  star = u32At l 28;
+  limit = u32At l 32;
+}
+
+-- "flags u8 (1 strict, 2 server timing, 4 suppressed client, 8 T present, 16 sub-function present, call 0 only, 32 data present)":
+-- 1 where the flag with this weight is set, and 0 where it is not.
+abbrev pub flag : ℕ → Header → ℕ
+flag weight h = h .flags / weight % 2
+
+-- What a call uses: the largest value and sub that it takes (0: unused), the largest lengths, whether flag 16 is its own, and whether data may and must be present.
+pub record Uses : Type 0 where
+  pub value : ℕ
+  pub sub : ℕ
+  pub lengths : ℕ
+  pub named : ℕ
+  pub may : ℕ
+  pub must : ℕ
+
+abbrev pub uses : ℕ → ℕ → ℕ → ℕ → ℕ → ℕ → Uses
+uses v s l n may must = record { value = v; sub = s; lengths = l; named = n; may = may; must = must }
+
+-- A row for each call, 0 to 14.
+abbrev pub table : List Uses
+table =
+    uses 255 0 0 1 1 0 ∷
+    uses 0 255 0 0 0 0 ∷
+    uses 0 255 0 0 0 0 ∷
+    uses 0 255 0 0 1 0 ∷
+    uses 0 0 0 0 0 0 ∷
+    uses 0 0 255 0 0 0 ∷
+    uses 0 0 255 0 1 1 ∷
+    uses 65535 0 0 0 0 0 ∷
+    uses 65535 0 0 0 1 1 ∷
+    uses 255 0 0 0 0 0 ∷
+    uses 65535 255 0 0 1 0 ∷
+    uses 65535 0 255 0 0 0 ∷
+    uses 65535 0 255 0 0 0 ∷
+    uses 255 0 0 0 1 0 ∷
+    uses 0 0 0 0 1 0 ∷ []
+
+abbrev pub usesOf : ℕ → Uses
+usesOf c = getD table c (uses 0 0 0 0 0 0)
+
+abbrev pub all : List Bool → Bool
+all [] = true
+all (b ∷ bs) = b && all bs
+
+-- "Unused fields and bits are zero; flags 1, 2, 4, 8 suit every call"; "Without flag 32 no data bytes; calls 6 and 8 need it."
+abbrev pub fieldsOk : Header → Uses → Bool
+fieldsOk h u =
+    all
+    (leb (h .flags / 32) (u .may) ∷
+    leb (u .must) (h .flags / 32) ∷
+    leb (flag 16 h) (u .named) ∷
+    leb (h .value) (u .value) ∷
+    leb (h .sub) (u .sub + flag 16 h * 255) ∷
+    leb (h .addressLength) (u .lengths) ∷
+    leb (h .sizeLength) (u .lengths) ∷
+    eqb (h .unused) 0 ∷
+    leb (h .limit) (flag 8 h * 4294967295) ∷
+    leb (h .addressLength + h .sizeLength) (h .arguments) ∷
+    leb (h .arguments) (h .addressLength + h .sizeLength + flag 32 h * 65535) ∷ [])
+
+-- "The areas follow in that order, no gaps."
+abbrev pub areasOk : Header → ℕ → Bool
+areasOk h n =
+    all
+    (eqb (h .argumentsAt) 36 ∷
+    eqb (h .eventsAt) (36 + h .arguments) ∷
+    eqb (h .repliesAt) (h .eventsAt + h .events * 10) ∷
+    eqb (h .total) (h .repliesAt + h .replies) ∷
+    eqb (h .total) n ∷ [])
+
+-- "kind 3 puts its number in length"; "an event of unknown kind has no unused field"
+abbrev pub eventOk : Entry → Bool
+eventOk e =
+    cond (eqb (e .kind) 1 || eqb (e .kind) 2) (eqb (e .offset) 0 && eqb (e .size) 0)
+    (cond (eqb (e .kind) 3) (eqb (e .offset) 0) true)
+
+-- n bytes from index i on.
+abbrev pub area : List ℕ → ℕ → ℕ → List ℕ
+area l i n = take n (drop i l)
+
+abbrev pub eventBytes : Header → List ℕ → List ℕ
+eventBytes h l = area l (h .eventsAt) (h .events * 10)
+
+unfoldable pub layoutOk : List ℕ → Bool
+layoutOk l =
+    let h = headerOf l in
+    all
+    (leb 36 (length l) ∷
+    eqb (h .version) 1 ∷
+    leb (h .call) 14 ∷
+    fieldsOk h (usesOf (h .call)) ∷
+    areasOk h (length l) ∷
+    every eventOk (entries (eventBytes h l)) ∷ [])
+
+-- "Arguments are address, size, data."
+abbrev pub addressOf : Header → List ℕ → Field
+addressOf h l = given (area l 36 (h .addressLength))
+
+abbrev pub sizeOf : Header → List ℕ → Field
+sizeOf h l = given (area l (36 + h .addressLength) (h .sizeLength))
+
+abbrev pub some? : {A : Type 0} → Bool → A → Option A
+some? true x = some x
+some? false x = none
+
+abbrev pub dataOf : Header → List ℕ → Option (List ℕ)
+dataOf h l =
+    some? (eqb (flag 32 h) 1) (area l (36 + h .addressLength + h .sizeLength) (h .arguments - (h .addressLength + h .sizeLength)))
+
+-- "value u16 (SID, id, mask, counter, or compression × 256 + encryption)"
+abbrev pub calls : ℕ → ℕ → Option ℕ → Field → Field → Option (List ℕ) → List Call
+calls v sub named a s d =
+    request v named d ∷
+    session sub ∷
+    reset sub ∷
+    security sub d ∷
+    testerPresent ∷
+    readMemory a s ∷
+    writeMemory a s (orNone d) ∷
+    readIdentifier v ∷
+    writeIdentifier v (orNone d) ∷
+    faultCount v ∷
+    routine sub v d ∷
+    download (v / 256) (v % 256) a s ∷
+    upload (v / 256) (v % 256) a s ∷
+    transfer v d ∷
+    transferExit d ∷ []
+
+abbrev pub callOf : Header → List ℕ → Call
+callOf h l =
+    getD (calls (h .value) (h .sub) (some? (eqb (flag 16 h) 1) (h .sub)) (addressOf h l) (sizeOf h l) (dataOf h l)) (h .call) testerPresent
+
+abbrev pub settingOf : Header → Setting
+settingOf h = record {
+  timing = record { p2 = h .p2; star = h .star };
+  limit = some? (eqb (flag 8 h) 1) (h .limit);
+  serverTiming = eqb (flag 2 h) 1;
+  quiet = eqb (flag 4 h) 1;
+}
+
+-- The buffer is as long as the longest request, so that refusal 9 cannot come up.
+abbrev pub lentOf : Header → List ℕ → Lent
+lentOf h l = record {
+  buffer = replicate 4095 0;
+  events = eventBytes h l;
+  replies = area l (h .repliesAt) (h .replies);
+}
+
+-- The line that `udslog` prints.
+unfoldable pub lineOf : List ℕ → List ℕ
+lineOf l =
+    let h = headerOf l in
+    let said = line (call (eqb (flag 1 h) 1) (settingOf h) (callOf h l) (lentOf h l) .answer) in
+    cond (layoutOk l) said badlog

@@ -1,0 +1,28 @@
+-- What a call is given besides its arguments. Strict is in none of these records: it is an argument of its own everywhere.
+use Prim.Native.Nat.{ℕ}
+use mathlib.Core.Bool.{Bool}
+use mathlib.Core.List.{List}
+use mathlib.Core.Option.{Option}
+use Rattle.rules.specs.Calls.{Call, subOf, withBit7, suppresses}
+
+-- "the session record, two numbers that the host lends": P2 and P2*.
+pub record Timing : Type 0 where
+  pub p2 : ℕ
+  pub star : ℕ
+
+-- The session's timing, the overall timeout T, server timing, and whether the client is the suppressed one.
+pub record Setting : Type 0 where
+  pub timing : Timing
+  pub limit : Option ℕ
+  pub serverTiming : Bool
+  pub quiet : Bool
+
+-- What is lent: the request buffer, the events (ten bytes each) and the reply bytes.
+pub record Lent : Type 0 where
+  pub buffer : List ℕ
+  pub events : List ℕ
+  pub replies : List ℕ
+
+-- Suppression is bit 7 of the sub-function that is sent, whoever set it.
+abbrev pub suppressing : Setting → Call → Bool
+suppressing w c = suppresses (withBit7 (w .quiet) (subOf c))
