@@ -4,12 +4,12 @@ use mathlib.Core.Bool.{Bool, true, false, cond, not, _&&_}
 use mathlib.Core.List.{List, [], _∷_, _++_}
 use mathlib.Core.Option.{Option, none, some}
 use lib.Bits.{bitOr}
-use lib.Dec.{leb, eqb}
+use lib.Dec.{leb, ltb, eqb}
 use lib.ListN.{length, getD}
 use Rattle.rules.specs.Answers.{Part, nowhere, behind, Fault, deviation, lengthError, Outcome, positive, suppressed, negative, timeout, disconnected, transport, fault, refused, Answer}
 use Rattle.rules.specs.Calls.{suppresses, head}
 use Rattle.rules.specs.Checks.{Check, unless, judge, inStrict}
-use Rattle.rules.specs.Events.{Event, reply, idle, ended, failed, upTo}
+use Rattle.rules.specs.Events.{Event, reply, idle, ended, failed, timeOf, upTo}
 
 -- What the exchange knows of the request that was sent, and the session's timing.
 pub record Asked : Type 0 where
@@ -48,16 +48,16 @@ granting m a hush r =
     unless (inStrict m (eqb (getD r 0 0) (bitOr (a .sid) 0x40))) (deviation 1) ∷
     echoing m (a .sub) r ++ (unless (inStrict m (not hush)) (deviation 4) ∷ [])
 
--- "Empty reply: length error (1, none)."
-abbrev pub looked : Bool → Asked → Bool → Part → List ℕ → Step
-looked m a hush p [] = wrong (lengthError m 1 none)
-looked m a hush p (b ∷ bs) =
-    cond (eqb b 0x7f) (judge wrong (refusing m a (b ∷ bs)) (coded (getD bs 1 0)))
-    (judge wrong (granting m a hush (b ∷ bs)) (settles (positive (behind (head (a .sub)) p))))
+-- By the first byte: 7F, or otherwise.
+abbrev pub byFirst : Bool → Asked → Bool → Part → List ℕ → Step
+byFirst m a hush p r =
+    cond (eqb (getD r 0 0) 0x7f) (judge wrong (refusing m a r) (coded (getD r 2 0)))
+    (judge wrong (granting m a hush r) (settles (positive (behind (head (a .sub)) p))))
 
--- One reply, judged.
+-- One reply, judged. "Empty reply: length error (1, none)."
 unfoldable pub look : Bool → Asked → Bool → Part → Step
-look m a hush p = looked m a hush p (p .bytes)
+look m a hush p =
+    judge wrong (unless (ltb 0 (length (p .bytes))) (lengthError m 1 none) ∷ []) (byFirst m a hush p (p .bytes))
 
 -- An exchange that is settled: the times of all events read and of the notices among them stand where document 01 counts them.
 pub record Settled : Type 0 where
@@ -88,26 +88,23 @@ waits (refused n) = false
 abbrev pub finish : Asked → Outcome → ℕ → ℕ
 finish a o t = cond (waits o && suppresses (a .sub)) (max t (a .p2)) t
 
--- What one reply at time t does to the exchange. `on`: the exchange over the events behind it.
+-- What is left to do after a reply at time t. `on`: the exchange over the events behind it.
 abbrev pub act : Asked → ℕ → Part → (Bool → ℕ → List ℕ → List ℕ → Settled) → List ℕ → List ℕ → Step → Settled
 act a t p on es ns pending = on false (t + a .star) (t ∷ es) (t ∷ ns)
 act a t p on es ns (settles o) = settled o (finish a o t) (t ∷ es) ns p
 
--- "An event exactly at a deadline is in time."
-abbrev pub inTime : Bool → Settled → Settled → Settled
-inTime true x late = x
-inTime false x late = late
+-- What one event in time does. "Idle changes nothing. End gives disconnected, error gives transport."
+abbrev pub turn : Bool → Asked → (Bool → ℕ → List ℕ → List ℕ → Settled) → Event → Bool → ℕ → List ℕ → List ℕ → Settled
+turn m a on (reply t p) hush d es ns = act a t p on es ns (look m a hush p)
+turn m a on (idle t) hush d es ns = on hush d (t ∷ es) ns
+turn m a on (ended t) hush d es ns = settled disconnected t (t ∷ es) ns nowhere
+turn m a on (failed t n) hush d es ns = settled (transport n) t (t ∷ es) ns nowhere
 
--- The events from here on; `hush` and the deadline d as they stand, and the times read so far.
+-- The events from here on; `hush`, the deadline d and the times read so far as they stand. "An event exactly at a deadline is in time."
 unfoldable pub settle : Bool → Asked → List Event → Bool → ℕ → List ℕ → List ℕ → Settled
 settle m a [] hush d es ns = silence hush d es ns
-settle m a (reply t p ∷ more) hush d es ns =
-    let x = act a t p (settle m a more) es ns (look m a hush p) in inTime (leb t d) x (silence hush d es ns)
-settle m a (idle t ∷ more) hush d es ns =
-    let x = settle m a more hush d (t ∷ es) ns in inTime (leb t d) x (silence hush d es ns)
-settle m a (ended t ∷ more) hush d es ns = inTime (leb t d) (settled disconnected t (t ∷ es) ns nowhere) (silence hush d es ns)
-settle m a (failed t n ∷ more) hush d es ns =
-    inTime (leb t d) (settled (transport n) t (t ∷ es) ns nowhere) (silence hush d es ns)
+settle m a (e ∷ more) hush d es ns =
+    let x = turn m a (settle m a more) e hush d es ns in cond (leb (timeOf e) d) x (silence hush d es ns)
 
 abbrev pub counted : Settled → Answer
 counted s = record {
