@@ -1,1 +1,8 @@
--- Proofs of the theorems that specs/ states.
+-- The theorems that specs/ states, and what they rest on.
+pub mod Judging
+pub mod Look
+pub mod Opened
+pub mod Rows
+pub mod Settle
+pub mod Limits
+pub mod Demand3

@@ -5,7 +5,7 @@ use mathlib.Core.List.{List, [], _∷_, _++_}
 use mathlib.Core.Option.{Option, none, some}
 use lib.Dec.{leb, ltb, eqb}
 use lib.ListN.{length, getD, take, drop}
-use Rattle.rules.specs.Answers.{Part, part, behind, Fault, deviation, overflow, lengthError, Outcome, positive, fault, ifPositive, Answer}
+use Rattle.rules.specs.Answers.{Part, part, behind, Fault, deviation, overflow, lengthError, Outcome, positive, fault, ifPositive, Answer, answer}
 use Rattle.rules.specs.Bytes.{value, u16At, same}
 use Rattle.rules.specs.Calls.{Call, request, session, reset, security, testerPresent, readMemory, writeMemory, readIdentifier, writeIdentifier, faultCount, routine, download, upload, transfer, transferExit, sent, format, numbered, head}
 use Rattle.rules.specs.Checks.{Check, unless, judge, inStrict}
@@ -110,13 +110,8 @@ unfoldable pub checked : Bool → Call → Part → Outcome
 checked m c p = judge fault (checks m c (p .bytes)) (positive (handed c p))
 
 abbrev pub after : Bool → Call → Answer → Answer
-after m c x = record {
-  outcome = ifPositive (x .outcome) (λ d. checked m c (x .reply)) (x .outcome);
-  time = x .time;
-  events = x .events;
-  notices = x .notices;
-  reply = x .reply;
-}
+after m c x =
+    answer (ifPositive (x .outcome) (λ d. checked m c (x .reply)) (x .outcome)) (x .time) (x .events) (x .notices) (x .reply)
 
 -- "They also return the value as a number; lenient n = 0 gives 0." Of the other calls, and of other outcomes, 0.
 abbrev pub numberOf : Call → Outcome → ℕ

@@ -60,6 +60,9 @@ pub record Answer : Type 0 where
   pub notices : ℕ
   pub reply : Part
 
+abbrev pub answer : Outcome → ℕ → ℕ → ℕ → Part → Answer
+answer o t e n p = record { outcome = o; time = t; events = e; notices = n; reply = p }
+
 -- "Refused: the number, time and counts 0"
 abbrev pub refusal : ℕ → Answer
-refusal n = record { outcome = refused n; time = 0; events = 0; notices = 0; reply = nowhere }
+refusal n = answer (refused n) 0 0 0 nowhere

@@ -6,7 +6,7 @@ use mathlib.Core.Option.{Option, none, some}
 use lib.Bits.{bitOr}
 use lib.Dec.{leb, ltb, eqb}
 use lib.ListN.{length, getD}
-use Rattle.rules.specs.Answers.{Part, nowhere, behind, Fault, deviation, lengthError, Outcome, positive, suppressed, negative, timeout, disconnected, transport, fault, refused, Answer}
+use Rattle.rules.specs.Answers.{Part, nowhere, behind, Fault, deviation, lengthError, Outcome, positive, suppressed, negative, timeout, disconnected, transport, fault, refused, Answer, answer}
 use Rattle.rules.specs.Calls.{suppresses, head}
 use Rattle.rules.specs.Checks.{Check, unless, judge, inStrict}
 use Rattle.rules.specs.Events.{Event, reply, idle, ended, failed, timeOf, upTo}
@@ -107,26 +107,13 @@ settle m a (e ∷ more) hush d es ns =
     let x = turn m a (settle m a more) e hush d es ns in cond (leb (timeOf e) d) x (silence hush d es ns)
 
 abbrev pub counted : Settled → Answer
-counted s = record {
-  outcome = s .outcome;
-  time = s .time;
-  events = length (s .events);
-  notices = length (s .notices);
-  reply = s .reply;
-}
+counted s = answer (s .outcome) (s .time) (length (s .events)) (length (s .notices)) (s .reply)
 
 -- "If that time exceeds T, the outcome is timeout at T." "Under a timeout at T these count only events at times up to T."
 abbrev pub under : Option ℕ → Settled → Answer
 under none s = counted s
 under (some limit) s =
-    cond (leb (s .time) limit) (counted s)
-    (record {
-      outcome = timeout;
-      time = limit;
-      events = upTo limit (s .events);
-      notices = upTo limit (s .notices);
-      reply = nowhere;
-    })
+    cond (leb (s .time) limit) (counted s) (answer timeout limit (upTo limit (s .events)) (upTo limit (s .notices)) nowhere)
 
 -- "The deadline starts at P2."
 unfoldable pub exchange : Bool → Asked → Option ℕ → List Event → Answer

@@ -14,3 +14,4 @@ pub mod Conversations
 pub mod Lines
 pub mod Logs
 pub mod Blocks
+pub mod Demand3
