@@ -60,7 +60,7 @@ granted-out w c r e h =
     (eq-eqb (getD r 0 0) (bitOr (sidOf c) 0x40) e, append-pass (echoing true (withBit7 (w .quiet) (subOf c)) r) _ (echo-out (w .quiet) (subOf c) r h) (refl, tt))
 
 -- No named service's positive begins with 7F.
-positive-first : (c : Call) → Named c → bitOr (sidOf c) 0x40 ≢ 0x7f
+pub positive-first : (c : Call) → Named c → bitOr (sidOf c) 0x40 ≢ 0x7f
 positive-first (request sid sub d) n e = n
 positive-first (session sub) n e = omega arith
 positive-first (reset sub) n e = omega arith
@@ -139,10 +139,10 @@ module _ (w : Setting) (c : Call) (is-named : Named c) (ts : List ℕ) (p : Part
   closing-heard (grants front d row hush e) = grants-heard front d (row-out (p .at) c front d row) (lifted ts (suppressing w c) hush) e
 
 module _ (w : Setting) (c : Call) (is-named : Named c) (es : List Event) (rises : Rising 0 es) (of-bytes : Every OfBytes es) where
-  abbrev ran : Settled
+  abbrev pub ran : Settled
   ran = settle true (asked w c) es (suppressing w c) (w .timing .p2) [] []
 
-  abbrev told : Answer
+  abbrev pub told : Answer
   told = after true c (counted ran)
 
   closed : (f : Found (asked w c) ran es (suppressing w c) (w .timing .p2) [] []) → Closing w c (f .times) (ran .reply) (told .outcome)
@@ -246,7 +246,7 @@ module _ (w : Setting) (c : Call) (is-named : Named c) (es : List Event) (rises 
       )
 
   -- A conversation is answered.
-  complete : (x : Answer) → Conversation w c es x → (told ≡ x) × Answers (x .outcome)
+  pub complete : (x : Answer) → Conversation w c es x → (told ≡ x) × Answers (x .outcome)
   complete x (inl f) = complete-closed x f
   complete x (inr h) = complete-silent x h
 

@@ -6,3 +6,6 @@ pub mod Rows
 pub mod Settle
 pub mod Limits
 pub mod Demand3
+pub mod Examples
+pub mod Layouts
+pub mod Unique

@@ -1,13 +1,13 @@
 -- Document 01, "Checks after the positive, in order", the data handed out, the number of calls 11 and 12, and the session timing of call 1.
 use Prim.Native.Nat.{ℕ, _+_, _*_, _/_, _%_, _^_}
-use mathlib.Core.Bool.{Bool, true, cond, _&&_, _||_}
+use mathlib.Core.Bool.{Bool, true, cond, _&&_}
 use mathlib.Core.List.{List, [], _∷_, _++_}
 use mathlib.Core.Option.{Option, none, some}
 use lib.Dec.{leb, ltb, eqb}
 use lib.ListN.{length, getD, take, drop}
 use Rattle.rules.specs.Answers.{Part, part, behind, Fault, deviation, overflow, lengthError, Outcome, positive, fault, ifPositive, Answer, answer}
 use Rattle.rules.specs.Bytes.{value, u16At, same}
-use Rattle.rules.specs.Calls.{Call, request, session, reset, security, testerPresent, readMemory, writeMemory, readIdentifier, writeIdentifier, faultCount, routine, download, upload, transfer, transferExit, sent, format, numbered, head}
+use Rattle.rules.specs.Calls.{Call, request, session, reset, security, testerPresent, readMemory, writeMemory, readIdentifier, writeIdentifier, faultCount, routine, download, upload, transfer, transferExit, sent, format, numbered, loads, head}
 use Rattle.rules.specs.Checks.{Check, unless, judge, inStrict}
 use Rattle.rules.specs.Settings.{Timing}
 
@@ -115,7 +115,7 @@ after m c x =
 
 -- "They also return the value as a number; lenient n = 0 gives 0." Of the other calls, and of other outcomes, 0.
 abbrev pub numberOf : Call → Outcome → ℕ
-numberOf c o = cond (eqb (numbered c) 11 || eqb (numbered c) 12) (ifPositive o (λ d. value (d .bytes)) 0) 0
+numberOf c o = cond (loads c) (ifPositive o (λ d. value (d .bytes)) 0) 0
 
 -- "Call 1, answered positive with four data bytes and server timing on, sets the session's P2 to the first pair and P2* to ten times the second."
 abbrev pub adopted : List ℕ → Timing → Timing

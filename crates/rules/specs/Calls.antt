@@ -1,9 +1,9 @@
 -- Document 01, "The calls": the fifteen calls and the requests that they send.
 use Prim.Native.Nat.{ℕ, _+_, _*_, _%_}
-use mathlib.Core.Bool.{Bool, true, false}
+use mathlib.Core.Bool.{Bool, true, false, _||_}
 use mathlib.Core.List.{List, [], _∷_, _++_}
 use mathlib.Core.Option.{Option, none, some}
-use lib.Dec.{leb}
+use lib.Dec.{leb, eqb}
 use lib.ListN.{length}
 use Rattle.rules.specs.Bytes.{bytesOf, two}
 
@@ -52,6 +52,10 @@ numbered (download c e a s) = 11
 numbered (upload c e a s) = 12
 numbered (transfer counter d) = 13
 numbered (transferExit d) = 14
+
+-- Calls 11 and 12.
+abbrev pub loads : Call → Bool
+loads c = eqb (numbered c) 11 || eqb (numbered c) 12
 
 abbrev pub sidOf : Call → ℕ
 sidOf (request sid sub d) = sid

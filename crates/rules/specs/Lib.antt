@@ -15,3 +15,7 @@ pub mod Lines
 pub mod Logs
 pub mod Blocks
 pub mod Demand3
+pub mod Examples
+pub mod Iso
+pub mod Layouts
+pub mod Unique

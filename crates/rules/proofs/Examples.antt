@@ -1,0 +1,13 @@
+-- The ten examples, by computing.
+use mathlib.Core.Path.{refl}
+use Rattle.rules.specs.After.{checked}
+use Rattle.rules.specs.Client.{call}
+use Rattle.rules.specs.Events.{withinLimits, entriesFrom}
+use Rattle.rules.specs.Examples.{examples, log, Examples}
+use Rattle.rules.specs.Exchange.{look, settle, exchange}
+use Rattle.rules.specs.Lines.{decimalTo, line}
+use Rattle.rules.specs.Logs.{layoutOk, lineOf}
+
+pub examples-hold : Examples
+unfolding examples log lineOf layoutOk line decimalTo call withinLimits entriesFrom exchange settle look checked
+examples-hold = (refl, refl)

@@ -1,0 +1,114 @@
+-- At most one conversation, and at least one of each kind, proved.
+use Prim.Native.Nat.{ℕ, _+_, _≤_, _<_}
+use native.Mathlib.Omega.{arith}
+use mathlib.Core.Bool.{Bool, true, false}
+use mathlib.Core.Path.{_≡_, refl, sym, _∙_, ap, ap₂}
+use mathlib.Core.Logic.{_≢_, _⊎_, inl, inr}
+use mathlib.Core.List.{List, [], _∷_, _++_}
+use lib.ListN.{length, getD}
+use Rattle.rules.specs.After.{checked}
+use Rattle.rules.specs.Answers.{Part, part, Outcome, Answer}
+use Rattle.rules.specs.Calls.{Call, sidOf}
+use Rattle.rules.specs.Client.{eventsIn, call}
+use Rattle.rules.specs.Conversations.{Waiting, none, idles, notice, Paced, Closing, refuses, grants, Closed, Silent, Conversation, IsIdle, Every}
+use Rattle.rules.specs.Demand3.{Named, Refused}
+use Rattle.rules.specs.Events.{Event, reply, idle, timeOf, withinLimits, entriesFrom}
+use Rattle.rules.specs.Exchange.{look, settle, exchange}
+use Rattle.rules.specs.Settings.{Setting, Lent, suppressing}
+use Rattle.rules.specs.Unique.{Unique, samples, Witnessed}
+use Rattle.rules.proofs.Demand3.{positive-first, complete, accepted, sound-events}
+use Rattle.rules.proofs.Rows.{row-out}
+
+-- Reading on to the closing: the first reply that is no notice.
+module _ (sid : ℕ) where
+  abbrev Notice : List ℕ
+  Notice = 0x7f ∷ sid ∷ 0x78 ∷ []
+
+  abbrev Same : List Event → List Event → List ℕ → List ℕ → ℕ → ℕ → List Event → List Event → Type 0
+  Same b b′ ts ts′ t t′ r r′ = (b ≡ b′) × (ts ≡ ts′) × (t ≡ t′) × (r ≡ r′)
+
+  same-split : {b b′ : List Event} {ts ts′ : List ℕ} → Waiting sid b ts → Waiting sid b′ ts′ → (t t′ : ℕ) (p p′ : Part) (r r′ : List Event)
+      → p .bytes ≢ Notice → p′ .bytes ≢ Notice → b ++ (reply t p ∷ r) ≡ b′ ++ (reply t′ p′ ∷ r′) → Same b b′ ts ts′ t t′ r r′
+  same-split none none t t′ p p′ r r′ n n′ e = (refl, refl, cc, cc)
+  same-split none (idles v) t t′ p p′ r r′ n n′ e = absurd (let z : _≡_ {A = ℕ} 0 1 = cc in omega arith)
+  same-split none (notice {at = at} v) t t′ p p′ r r′ n n′ e = absurd (n (let z : p ≡ part at Notice = cc in ap (λ (q : Part). q .bytes) z))
+  same-split (idles v) none t t′ p p′ r r′ n n′ e = absurd (let z : _≡_ {A = ℕ} 0 1 = cc in omega arith)
+  same-split (idles {t = u} {es = l} v) (idles {t = u′} {es = l′} v′) t t′ p p′ r r′ n n′ e =
+      let h = same-split v v′ t t′ p p′ r r′ n n′ cc in
+      let time : u ≡ u′ = cc in
+      (ap₂ (λ (k : ℕ) (m : List Event). idle k ∷ m) time (h .0), h .1, h .2, h .3)
+  same-split (idles v) (notice v′) t t′ p p′ r r′ n n′ e = absurd (let z : _≡_ {A = ℕ} 0 1 = cc in omega arith)
+  same-split (notice {at = at} v) none t t′ p p′ r r′ n n′ e = absurd (n′ (let z : part at Notice ≡ p′ = cc in sym (ap (λ (q : Part). q .bytes) z)))
+  same-split (notice v) (idles v′) t t′ p p′ r r′ n n′ e = absurd (let z : _≡_ {A = ℕ} 0 1 = cc in omega arith)
+  same-split (notice {t = u} {at = at} v) (notice {t = u′} {at = at′} v′) t t′ p p′ r r′ n n′ e =
+      let h = same-split v v′ t t′ p p′ r r′ n n′ cc in
+      let time : u ≡ u′ = cc in
+      let place : part at Notice ≡ part at′ Notice = cc in
+      (λ i. reply (time i) (place i) ∷ h .0 i, ap₂ (λ (k : ℕ) (m : List ℕ). k ∷ m) time (h .1), h .2, h .3)
+
+-- A closing is no notice.
+no-notice : (w : Setting) (c : Call) → Named c → {ts : List ℕ} {p : Part} {o : Outcome} → Closing w c ts p o → p .bytes ≢ 0x7f ∷ sidOf c ∷ 0x78 ∷ []
+no-notice w c n (refuses {code = code} k e) f = k (let z : 0x7f ∷ sidOf c ∷ code ∷ [] ≡ 0x7f ∷ sidOf c ∷ 0x78 ∷ [] = sym e ∙ f in cc)
+no-notice w c n (grants head d row hush e) f =
+    positive-first c n (sym (row-out 0 c head d row .sid) ∙ ap (λ (l : List ℕ). getD l 0 0) (sym e ∙ f))
+
+places : (w : Setting) (c : Call) (es : List Event) (x y : Answer) → Named c → (f : Closed w c es x) (g : Closed w c es y)
+    → (f .before ≡ g .before) × (f .times ≡ g .times) × (f .at ≡ g .at) × (f .rest ≡ g .rest)
+places w c es x y n f g =
+    same-split (sidOf c) (f .waits) (g .waits) (f .at) (g .at) (x .reply) (y .reply) (f .rest) (g .rest) (no-notice w c n (f .closes)) (no-notice w c n (g .closes)) (sym (f .begins) ∙ g .begins)
+
+-- The first notice or closing stands at a time up to P2, and is no idle.
+not-hushed : {sid : ℕ} {before : List Event} {ts : List ℕ} → Waiting sid before ts → (d star t : ℕ) (p : Part) (rest : List Event) → Paced d star (ts ++ (t ∷ []))
+    → Every (λ e. timeOf e ≤ d → IsIdle e) (before ++ (reply t p ∷ rest)) → ⊥
+not-hushed none d star t p rest k h = h .0 (k .0)
+not-hushed (idles v) d star t p rest k h = not-hushed v d star t p rest k (h .1)
+not-hushed (notice v) d star t p rest k h = h .0 (k .0)
+
+apart : (w : Setting) (c : Call) (es : List Event) (x y : Answer) → Closed w c es x → Silent w c es y → ⊥
+apart w c es x y f s =
+    not-hushed (f .waits) (w .timing .p2) (w .timing .star) (f .at) (x .reply) (f .rest) (f .paced)
+    (mathlib.Core.Path.subst (λ (l : List Event). Every (λ e. timeOf e ≤ w .timing .p2 → IsIdle e) l) (f .begins) (s .hush))
+
+answers : (w : Setting) (c : Call) (l : Lent) (x y : Answer) → Named c → ¬ Refused (call true w c l .answer .outcome)
+    → Conversation w c (eventsIn l) x → Conversation w c (eventsIn l) y → x ≡ y
+answers w c l x y n ok p q =
+    let s = sound-events true w c l (accepted true w c l ok) in
+    let only : (z : Answer) → Conversation w c (eventsIn l) z → _ = complete w c n (eventsIn l) (s .rising′) (s .of-bytes) in
+    sym (only x p .0) ∙ only y q .0
+
+pub unique : Unique
+unique = record { places = places; apart = apart; answers = answers }
+
+pub witnessed : Witnessed
+unfolding samples call withinLimits entriesFrom exchange settle look checked
+witnessed = record {
+  negatives = λ w c. record {
+    before = [];
+    times = [];
+    at = 0;
+    rest = [];
+    begins = refl;
+    waits = none;
+    paced = (omega arith, tt);
+    closes = refuses {code = 0x10} (λ e. omega arith) refl;
+    time = refl;
+    events = refl;
+    notices = refl;
+  };
+  silences = λ w c e. record { asked = e; hush = tt; outcome = refl; time = refl; events = refl; notices = refl; reply = refl };
+  positives = λ w c head d row. record {
+    before = reply 0 (part 0 (0x7f ∷ sidOf c ∷ 0x78 ∷ [])) ∷ [];
+    times = 0 ∷ [];
+    at = 0;
+    rest = [];
+    begins = refl;
+    waits = notice none;
+    paced = (omega arith, (omega arith, tt));
+    closes = grants head d row (λ e n. mathlib.Core.List.cons≢nil n) refl;
+    time = refl;
+    events = refl;
+    notices = refl;
+  };
+  services = refl;
+  answered = refl;
+}

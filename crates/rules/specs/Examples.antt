@@ -1,0 +1,111 @@
+-- Document 01, "Proved examples, strict with 50 and 5000 unless said": one table, and one statement about it.
+use Prim.Native.Nat.{ℕ, _+_}
+use mathlib.Core.Bool.{Bool, true, false}
+use mathlib.Core.Path.{_≡_}
+use mathlib.Core.List.{List, [], _∷_, _++_, map}
+use mathlib.Core.Option.{Option, none, some}
+use lib.ListN.{length, replicate}
+use Rattle.rules.specs.Answers.{Part, part, Fault, deviation, deviation8, overflow, Outcome, positive, suppressed, negative, timeout, fault}
+use Rattle.rules.specs.Bytes.{bytesOf, two}
+use Rattle.rules.specs.Calls.{Call, request, reset, testerPresent, readMemory, readIdentifier, download, given}
+use Rattle.rules.specs.Client.{Result, call}
+use Rattle.rules.specs.Lines.{ascii}
+use Rattle.rules.specs.Logs.{lineOf}
+use Rattle.rules.specs.Settings.{Setting, Lent}
+
+-- A reply, and its time.
+abbrev pub Said : Type 0
+Said = ℕ × List ℕ
+
+abbrev pub joined : List Said → List ℕ
+joined [] = []
+joined (s ∷ ss) = s .1 ++ joined ss
+
+-- Their events, ten bytes each; the next reply stands at index i of the reply bytes.
+abbrev pub eventBytes : ℕ → List Said → List ℕ
+eventBytes i [] = []
+eventBytes i (s ∷ ss) = bytesOf 4 (s .0) ++ two 0 ++ two i ++ two (length (s .1)) ++ eventBytes (i + length (s .1)) ss
+
+abbrev pub lent : List Said → Lent
+lent ss = record { buffer = replicate 64 0; events = eventBytes 0 ss; replies = joined ss }
+
+-- P2 50 and P2* 5000, the overall timeout as given, server timing on.
+abbrev pub setting : Option ℕ → Bool → Setting
+setting limit quiet = record { timing = record { p2 = 50; star = 5000 }; limit = limit; serverTiming = true; quiet = quiet }
+
+-- An answer in document 01's values: outcome, finishing time, events read, notices; and the number of calls 11 and 12.
+pub record Gives : Type 0 where
+  pub outcome : Outcome
+  pub time : ℕ
+  pub events : ℕ
+  pub notices : ℕ
+  pub number : ℕ
+
+abbrev pub gives : Outcome → ℕ → ℕ → ℕ → ℕ → Gives
+gives o t e n v = record { outcome = o; time = t; events = e; notices = n; number = v }
+
+abbrev pub told : Result → Gives
+told r = gives (r .answer .outcome) (r .answer .time) (r .answer .events) (r .answer .notices) (r .number)
+
+pub record Example : Type 0 where
+  pub strict : Bool
+  pub setting : Setting
+  pub call : Call
+  pub said : List Said
+  pub gives : Gives
+
+abbrev pub row : Bool → Setting → Call → List Said → Gives → Example
+row m w c ss g = record { strict = m; setting = w; call = c; said = ss; gives = g }
+
+abbrev pub usual : Setting
+usual = setting none false
+
+-- Examples 1 to 3: the log's two replies, the second at time t.
+abbrev pub hoist : Setting → ℕ → Gives → Example
+hoist w t g = row true w (readIdentifier 0xf190) ((20, 0x7f ∷ 0x22 ∷ 0x78 ∷ []) ∷ (t, 0x62 ∷ 0xf1 ∷ 0x90 ∷ 0x41 ∷ 0x42 ∷ []) ∷ []) g
+
+-- Examples 5 to 10: one reply, at time 10.
+abbrev pub one : Bool → Call → List ℕ → Gives → Example
+one m c r g = row m usual c ((10, r) ∷ []) g
+
+abbrev pub memoryOfNone : Call
+memoryOfNone = readMemory (given (0x20 ∷ 0x00 ∷ [])) (given (0x00 ∷ []))
+
+abbrev pub load : Call
+load = download 0 0 (given (0x20 ∷ 0x00 ∷ [])) (given (0x10 ∷ 0x00 ∷ []))
+
+unfoldable pub examples : List Example
+examples =
+    hoist usual 900 (gives (positive (part 6 (0x41 ∷ 0x42 ∷ []))) 900 2 1 0) ∷
+    hoist usual 5020 (gives (positive (part 6 (0x41 ∷ 0x42 ∷ []))) 5020 2 1 0) ∷
+    hoist usual 5021 (gives timeout 5020 1 1 0) ∷
+    hoist (setting (some 900) false) 900 (gives (positive (part 6 (0x41 ∷ 0x42 ∷ []))) 900 2 1 0) ∷
+    hoist (setting (some 899) false) 900 (gives timeout 899 1 1 0) ∷
+    row true usual testerPresent [] (gives timeout 50 0 0 0) ∷
+    row true (setting none true) testerPresent [] (gives suppressed 50 0 0 0) ∷
+    one true (reset 0x81) (0x51 ∷ 0x01 ∷ []) (gives (fault (deviation 4)) 10 1 0 0) ∷
+    one false (reset 0x81) (0x51 ∷ 0x01 ∷ []) (gives (positive (part 2 [])) 50 1 0 0) ∷
+    one true (reset 0x81) (0x7f ∷ 0x11 ∷ 0x22 ∷ []) (gives (negative 0x22) 50 1 0 0) ∷
+    one true (readIdentifier 0xf190) (0x7f ∷ 0x31 ∷ 0x78 ∷ []) (gives (fault (deviation 2)) 10 1 0 0) ∷
+    one false (readIdentifier 0xf190) (0x7f ∷ 0x31 ∷ 0x78 ∷ []) (gives timeout 5010 1 1 0) ∷
+    one true memoryOfNone (0x63 ∷ []) (gives (fault (deviation8 2 none)) 10 1 0 0) ∷
+    one true memoryOfNone (0x63 ∷ 0xaa ∷ []) (gives (fault (deviation 15)) 10 1 0 0) ∷
+    one true load (0x74 ∷ 0x20 ∷ 0x0f ∷ 0xfa ∷ []) (gives (positive (part 2 (0x0f ∷ 0xfa ∷ []))) 10 1 0 4090) ∷
+    one true load (0x74 ∷ 0x10 ∷ 0x02 ∷ []) (gives (fault (deviation 11)) 10 1 0 0) ∷
+    one true load (0x74 ∷ 0x90 ∷ 0x01 ∷ replicate 8 0) (gives (fault overflow) 10 1 0 0) ∷
+    one true (request 0x3f none none) (0x7f ∷ 0x01 ∷ []) (gives (fault (deviation8 3 (some 3))) 10 1 0 0) ∷ []
+
+-- The input that document 01 prints, and its line.
+unfoldable pub log : List ℕ
+log =
+    0x00 ∷ 0x01 ∷ 0x07 ∷ 0x03 ∷ 0xf1 ∷ 0x90 ∷ 0x00 ∷ 0x00 ∷ 0x00 ∷ 0x00 ∷
+    0x00 ∷ 0x00 ∷ 0x00 ∷ 0x24 ∷ 0x00 ∷ 0x02 ∷ 0x00 ∷ 0x24 ∷ 0x00 ∷ 0x08 ∷ 0x00 ∷ 0x38 ∷ 0x00 ∷ 0x40 ∷
+    0x00 ∷ 0x00 ∷ 0x00 ∷ 0x32 ∷ 0x00 ∷ 0x00 ∷ 0x13 ∷ 0x88 ∷ 0x00 ∷ 0x00 ∷ 0x00 ∷ 0x00 ∷
+    0x00 ∷ 0x00 ∷ 0x00 ∷ 0x14 ∷ 0x00 ∷ 0x00 ∷ 0x00 ∷ 0x00 ∷ 0x00 ∷ 0x03 ∷
+    0x00 ∷ 0x00 ∷ 0x03 ∷ 0x84 ∷ 0x00 ∷ 0x00 ∷ 0x00 ∷ 0x03 ∷ 0x00 ∷ 0x05 ∷
+    0x7f ∷ 0x22 ∷ 0x78 ∷ 0x62 ∷ 0xf1 ∷ 0x90 ∷ 0x41 ∷ 0x42 ∷ []
+
+abbrev pub Examples : Type 0
+Examples =
+    (lineOf log ≡ ascii "positive 900 2 1 4142\n") ×
+    (map (λ e. told (call (e .strict) (e .setting) (e .call) (lent (e .said)))) examples ≡ map (λ e. e .gives) examples)
