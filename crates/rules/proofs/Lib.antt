@@ -9,3 +9,4 @@ pub mod Demand3
 pub mod Examples
 pub mod Layouts
 pub mod Unique
+pub mod Counts

@@ -19,3 +19,4 @@ pub mod Examples
 pub mod Iso
 pub mod Layouts
 pub mod Unique
+pub mod Counts
