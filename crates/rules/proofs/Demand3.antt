@@ -6,14 +6,13 @@ use mathlib.Core.Path.{_≡_, refl, sym, _∙_, ap, subst, subst⁻¹}
 use mathlib.Core.Logic.{_≢_, _⊎_, inl, inr, _↔_}
 use mathlib.Core.List.{List, [], _∷_, _++_, map}
 use mathlib.Core.Option.{Option, none, some}
-use lib.Bits.{bitOr}
 use lib.Dec.{leb, eqb}
 use lib.ListN.{length, getD}
 use borrow.Author.Tests.{leb-true, eqb-true, le-leb, eq-eqb, not-true}
 use Rattle.rules.specs.After.{checks, handed, checked, after}
 use Rattle.rules.specs.Answers.{Part, part, nowhere, behind, Fault, Outcome, positive, suppressed, negative, timeout, disconnected, transport, fault, refused, ifPositive, Answer, answer, refusal}
 use Rattle.rules.specs.Bytes.{every, isByte}
-use Rattle.rules.specs.Calls.{Call, request, session, reset, security, testerPresent, readMemory, writeMemory, readIdentifier, writeIdentifier, faultCount, routine, download, upload, transfer, transferExit, sidOf, subOf, withBit7, suppresses, head, requestOf}
+use Rattle.rules.specs.Calls.{Call, request, session, reset, security, testerPresent, readMemory, writeMemory, readIdentifier, writeIdentifier, faultCount, routine, download, upload, transfer, transferExit, sidOf, subOf, withBit7, suppresses, positiveSid, head, requestOf}
 use Rattle.rules.specs.Checks.{Check, unless, judge}
 use Rattle.rules.specs.Client.{Result, asked, eventsIn, refuse, answered, call}
 use Rattle.rules.specs.Conversations.{Waiting, Paced, Closing, refuses, grants, Closed, Silent, Conversation, Every}
@@ -42,7 +41,7 @@ echo-out false (some s) r e = (le-leb 2 (length r) (e .0), (eq-eqb (getD r 1 0) 
 
 -- What a granted reply shows, for the call as it was asked.
 record Granted (w : Setting) (c : Call) (hush : Bool) (r : List ℕ) : Type 0 where
-  sid : getD r 0 0 ≡ bitOr (sidOf c) 0x40
+  sid : getD r 0 0 ≡ positiveSid (sidOf c)
   echo : Echo (subOf c) r
   unhushed : hush ≡ false
 
@@ -50,17 +49,17 @@ granted-in : (w : Setting) (c : Call) (hush : Bool) (r : List ℕ) → Pass (gra
 granted-in w c hush r p =
     let h = pass-append (echoing true (withBit7 (w .quiet) (subOf c)) r) _ (p .1) in
     record {
-      sid = eqb-true (getD r 0 0) (bitOr (sidOf c) 0x40) (p .0);
+      sid = eqb-true (getD r 0 0) (positiveSid (sidOf c)) (p .0);
       echo = echo-in (w .quiet) (subOf c) r (h .0);
       unhushed = not-true hush (h .1 .0);
     }
 
-granted-out : (w : Setting) (c : Call) (r : List ℕ) → getD r 0 0 ≡ bitOr (sidOf c) 0x40 → Echo (subOf c) r → Pass (granting true (asked w c) false r)
+granted-out : (w : Setting) (c : Call) (r : List ℕ) → getD r 0 0 ≡ positiveSid (sidOf c) → Echo (subOf c) r → Pass (granting true (asked w c) false r)
 granted-out w c r e h =
-    (eq-eqb (getD r 0 0) (bitOr (sidOf c) 0x40) e, append-pass (echoing true (withBit7 (w .quiet) (subOf c)) r) _ (echo-out (w .quiet) (subOf c) r h) (refl, tt))
+    (eq-eqb (getD r 0 0) (positiveSid (sidOf c)) e, append-pass (echoing true (withBit7 (w .quiet) (subOf c)) r) _ (echo-out (w .quiet) (subOf c) r h) (refl, tt))
 
 -- No named service's positive begins with 7F.
-pub positive-first : (c : Call) → Named c → bitOr (sidOf c) 0x40 ≢ 0x7f
+pub positive-first : (c : Call) → Named c → positiveSid (sidOf c) ≢ 0x7f
 positive-first (request sid sub d) n e = n
 positive-first (session sub) n e = omega arith
 positive-first (reset sub) n e = omega arith
@@ -114,7 +113,7 @@ module _ (w : Setting) (c : Call) (is-named : Named c) (ts : List ℕ) (p : Part
   unfolding checked
   grants-heard front d f u e =
       let fits = subst⁻¹ (λ (r : List ℕ). Fits c (p .at) front d → Pass (checks true c r) × (handed c (part (p .at) r) ≡ part (p .at + length front) d)) e (λ k. (k .pass, k .hands)) f in
-      let sid : getD (p .bytes) 0 0 ≡ bitOr (sidOf c) 0x40 = ap (λ (r : List ℕ). getD r 0 0) e ∙ f .sid in
+      let sid : getD (p .bytes) 0 0 ≡ positiveSid (sidOf c) = ap (λ (r : List ℕ). getD r 0 0) e ∙ f .sid in
       let grant = granted-out w c (p .bytes) sid (subst⁻¹ (λ (r : List ℕ). Echo (subOf c) r) e (f .echo)) in
       record {
         heard = positive (behind _ p);

@@ -6,12 +6,11 @@ use mathlib.Core.Path.{_≡_, refl, sym, _∙_, ap, ap₂, subst}
 use mathlib.Core.Logic.{_≢_, _↔_}
 use mathlib.Core.List.{List, [], _∷_, _++_, append-nil, append-assoc}
 use mathlib.Core.Option.{Option, none, some}
-use lib.Bits.{bitOr}
 use lib.Dec.{leb, eqb}
 use lib.ListN.{length}
 use borrow.Author.Tests.{leb-true, leb-false, le-leb, eqb-true, eqb-false}
 use Rattle.rules.specs.Bytes.{value, bytesOf, two}
-use Rattle.rules.specs.Calls.{Call, request, session, reset, security, testerPresent, readMemory, writeMemory, readIdentifier, writeIdentifier, faultCount, routine, download, upload, transfer, transferExit, sent, memory, orNone, byte, withBit7, suppresses, requestOf}
+use Rattle.rules.specs.Calls.{Call, request, session, reset, security, testerPresent, readMemory, writeMemory, readIdentifier, writeIdentifier, faultCount, routine, download, upload, transfer, transferExit, sent, memory, orNone, byte, withBit7, suppresses, positiveSid, requestOf}
 use Rattle.rules.specs.Iso as Iso
 use Rattle.rules.specs.Layouts.{service, InRange, Recorded, Beyond, IsRow, Layouts}
 use Rattle.rules.specs.Positives.{Loading, Asking, Positive}
@@ -163,8 +162,8 @@ at-each (suc n) p h i k =
     go true e g f = ap p (eqb-true i n e) ∙ g
     go false e g f = f (omega (arith, eqb-false i n e))
 
-positive-sid : (sid : ℕ) → sid < 256 → bitOr sid 0x40 ≡ Iso.responseSid sid
-positive-sid sid h = eqb-true (bitOr sid 0x40) (Iso.responseSid sid) (at-each 256 (λ s. eqb (bitOr s 0x40) (Iso.responseSid s)) refl sid h)
+positive-sid : (sid : ℕ) → sid < 256 → positiveSid sid ≡ Iso.responseSid sid
+positive-sid sid h = eqb-true (positiveSid sid) (Iso.responseSid sid) (at-each 256 (λ s. eqb (positiveSid s) (Iso.responseSid s)) refl sid h)
 
 pub layouts : Layouts
 layouts = record { requests = requests; positives = λ w c n r d. positives w r d c n; positive-sid = positive-sid }

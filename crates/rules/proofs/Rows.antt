@@ -6,7 +6,6 @@ use mathlib.Core.Path.{_≡_, refl, sym, _∙_, ap, ap₂, subst, subst⁻¹}
 use mathlib.Core.Logic.{_≢_, _⊎_, inl, inr}
 use mathlib.Core.List.{List, [], _∷_, _++_}
 use mathlib.Core.Option.{Option, none, some}
-use lib.Bits.{bitOr}
 use lib.Dec.{leb, ltb, eqb}
 use lib.ListN.{length, getD, take, drop, length-append, length-drop, take-append-drop}
 use lib.Seq.{drop-cons, take-all, take-append-seam, drop-append-seam}
@@ -14,7 +13,7 @@ use borrow.Author.Tests.{leb-true, ltb-true, eqb-true, eqb-false, lt-ltb, le-leb
 use Rattle.rules.specs.After.{bounds, exactly, atLeast, strictly, resetLength, transferLength, lengthBytes, blockLength, loading, checks, first, only, handed}
 use Rattle.rules.specs.Answers.{Part, part, behind, Fault}
 use Rattle.rules.specs.Bytes.{value, u16At, two, same, every, isByte}
-use Rattle.rules.specs.Calls.{Call, request, session, reset, security, testerPresent, readMemory, writeMemory, readIdentifier, writeIdentifier, faultCount, routine, download, upload, transfer, transferExit, Field, sent, format, memory, sidOf, subOf}
+use Rattle.rules.specs.Calls.{Call, request, session, reset, security, testerPresent, readMemory, writeMemory, readIdentifier, writeIdentifier, faultCount, routine, download, upload, transfer, transferExit, Field, sent, format, memory, sidOf, subOf, positiveSid}
 use Rattle.rules.specs.Checks.{Check, unless, inStrict}
 use Rattle.rules.specs.Demand3.{Named}
 use Rattle.rules.specs.Positives.{Loading, Asking, Positive}
@@ -125,7 +124,7 @@ module _ (at : ℕ) (r : List ℕ) (bytes : every isByte r ≡ true) where
   asking none h = rw (length-drop 2 r) (omega arith)
   asking (some d) h = tt
 
-  pub row-in : (c : Call) → Named c → getD r 0 0 ≡ bitOr (sidOf c) 0x40 → 1 ≤ length r → Echo (subOf c) r → Pass (checks true c r) → Row c at r
+  pub row-in : (c : Call) → Named c → getD r 0 0 ≡ positiveSid (sidOf c) → 1 ≤ length r → Echo (subOf c) r → Pass (checks true c r) → Row c at r
   row-in (request sid sub x) n e o h p = absurd n
   row-in (session sub) n e o h p =
       let four = long 2 6 (within 6 r (p .0)) in
@@ -177,7 +176,7 @@ module _ (at : ℕ) (r : List ℕ) (bytes : every isByte r ≡ true) where
 
 -- The other way: a row's positive passes all strict checks, and its data is handed out at its place.
 pub record Fits (c : Call) (at : ℕ) (front d : List ℕ) : Type 0 where
-  pub sid : getD (front ++ d) 0 0 ≡ bitOr (sidOf c) 0x40
+  pub sid : getD (front ++ d) 0 0 ≡ positiveSid (sidOf c)
   pub some-byte : 0 < length (front ++ d)
   pub echo : Echo (subOf c) (front ++ d)
   pub pass : Pass (checks true c (front ++ d))

@@ -3,6 +3,7 @@ use Prim.Native.Nat.{ℕ, _+_, _*_, _%_}
 use mathlib.Core.Bool.{Bool, true, false, _||_}
 use mathlib.Core.List.{List, [], _∷_, _++_}
 use mathlib.Core.Option.{Option, none, some}
+use lib.Bits.{bitOr}
 use lib.Dec.{leb, eqb}
 use lib.ListN.{length}
 use Rattle.rules.specs.Bytes.{bytesOf, two}
@@ -102,6 +103,10 @@ withBit7 false (some sub) = some sub
 abbrev pub suppresses : Option ℕ → Bool
 suppresses none = false
 suppresses (some s) = leb 128 s
+
+-- "SID OR 40": the first byte of a positive.
+abbrev pub positiveSid : ℕ → ℕ
+positiveSid sid = bitOr sid 0x40
 
 -- How many bytes stand before the data: the SID and, if there is one, the sub-function.
 abbrev pub head : Option ℕ → ℕ

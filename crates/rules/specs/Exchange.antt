@@ -3,11 +3,10 @@ use Prim.Native.Nat.{ℕ, _+_, _%_, max}
 use mathlib.Core.Bool.{Bool, true, false, cond, not, _&&_}
 use mathlib.Core.List.{List, [], _∷_, _++_}
 use mathlib.Core.Option.{Option, none, some}
-use lib.Bits.{bitOr}
 use lib.Dec.{leb, ltb, eqb}
 use lib.ListN.{length, getD}
 use Rattle.rules.specs.Answers.{Part, nowhere, behind, Fault, deviation, lengthError, Outcome, positive, suppressed, negative, timeout, disconnected, transport, fault, refused, Answer, answer}
-use Rattle.rules.specs.Calls.{suppresses, head}
+use Rattle.rules.specs.Calls.{suppresses, positiveSid, head}
 use Rattle.rules.specs.Checks.{Check, unless, judge, inStrict}
 use Rattle.rules.specs.Events.{Event, reply, idle, ended, failed, timeOf, upTo}
 
@@ -45,7 +44,7 @@ echoing m (some s) r =
 -- "strict, first byte not SID OR 40: deviation 1." .. "Strict, suppressed, no pending: deviation 4." `hush`: suppressed, and no pending was read.
 abbrev pub granting : Bool → Asked → Bool → List ℕ → List (Check Fault)
 granting m a hush r =
-    unless (inStrict m (eqb (getD r 0 0) (bitOr (a .sid) 0x40))) (deviation 1) ∷
+    unless (inStrict m (eqb (getD r 0 0) (positiveSid (a .sid)))) (deviation 1) ∷
     echoing m (a .sub) r ++ (unless (inStrict m (not hush)) (deviation 4) ∷ [])
 
 -- By the first byte: 7F, or otherwise.

@@ -4,11 +4,10 @@ use mathlib.Core.Bool.{true, cond}
 use mathlib.Core.Path.{_≡_}
 use mathlib.Core.Logic.{_≢_, _↔_}
 use mathlib.Core.List.{List, _++_}
-use lib.Bits.{bitOr}
 use lib.Dec.{eqb}
 use lib.ListN.{length}
 use Rattle.rules.specs.Bytes.{value}
-use Rattle.rules.specs.Calls.{Call, request, session, reset, security, testerPresent, readMemory, writeMemory, readIdentifier, writeIdentifier, faultCount, routine, download, upload, transfer, transferExit, Field, sent, orNone, loads, requestOf}
+use Rattle.rules.specs.Calls.{Call, request, session, reset, security, testerPresent, readMemory, writeMemory, readIdentifier, writeIdentifier, faultCount, routine, download, upload, transfer, transferExit, Field, sent, orNone, loads, positiveSid, requestOf}
 use Rattle.rules.specs.Iso as Iso
 use Rattle.rules.specs.Positives.{Positive}
 use Rattle.rules.specs.Settings.{Setting, suppressing}
@@ -83,4 +82,4 @@ IsRow c r d = (head : List ℕ) × Positive c head d × (r ≡ head ++ d)
 pub record Layouts : Type 0 where
   pub requests : (w : Setting) (c : Call) → InRange c → Recorded c → Iso.Request (service w c) (requestOf (w .quiet) c)
   pub positives : (w : Setting) (c : Call) → InRange c → (r d : List ℕ) → IsRow c r d ↔ (Iso.Response (service w c) r d × Beyond c d)
-  pub positive-sid : (sid : ℕ) → sid < 256 → bitOr sid 0x40 ≡ Iso.responseSid sid
+  pub positive-sid : (sid : ℕ) → sid < 256 → positiveSid sid ≡ Iso.responseSid sid

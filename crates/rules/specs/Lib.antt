@@ -20,3 +20,4 @@ pub mod Iso
 pub mod Layouts
 pub mod Unique
 pub mod Counts
+pub mod Readings
