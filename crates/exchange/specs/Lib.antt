@@ -1,0 +1,2 @@
+-- What the code's values mean in `rules`.
+pub mod Meaning

@@ -1,0 +1,77 @@
+// What an exchange is asked, what it reads, and what it answers: plain data by value, with places into the lent reply bytes.
+use crate::error::ProtocolDeviation;
+
+// A part of the lent reply bytes; (0, 0) where there is none.
+pub struct Place {
+    pub at: usize,
+    pub len: usize,
+}
+
+pub enum SubFunction {
+    Absent,
+    Given(u8),
+}
+
+// The overall timeout T, which may be absent.
+pub enum RequestTimeout {
+    Never,
+    At(u32),
+}
+
+// What the exchange knows of the request that was sent, and the session's timing.
+pub struct Asked {
+    pub sid: u8,
+    pub sub: SubFunction,
+    pub p2: u32,
+    pub star: u32,
+}
+
+// "Event, 10 bytes: time u32, kind u16, offset into reply bytes u16, length u16; kind 3 puts its number in length."
+pub struct Event {
+    pub time: u32,
+    pub kind: u16,
+    pub offset: u16,
+    pub size: u16,
+}
+
+pub enum Outcome {
+    PositiveResponse(Place),
+    Suppressed,
+    NegativeResponse(u8),
+    Timeout,
+    Disconnected,
+    Transport(u16),
+    ProtocolDeviation(ProtocolDeviation),
+    InvalidResponseLength,
+    BlockLengthOverflow,
+    Refused(u8),
+}
+
+// What a reply does: it asks for patience, or settles the exchange.
+pub enum Step {
+    Pending,
+    Settles(Outcome),
+}
+
+// An exchange that is settled, before T is asked; `reply` is the reply that settled it.
+pub struct Settled {
+    pub outcome: Outcome,
+    pub time: u64,
+    pub reply: Place,
+}
+
+// What one event in time does: nothing, or a notice with the deadline that it sets, or it settles the exchange.
+pub enum Turned {
+    Idle,
+    Notice(u64),
+    Ends(Settled),
+}
+
+// "Each answer carries the number of events read and of pending notices, the settling event included."
+pub struct Answer {
+    pub outcome: Outcome,
+    pub time: u64,
+    pub events: usize,
+    pub notices: usize,
+    pub reply: Place,
+}
