@@ -1,0 +1,2 @@
+-- What a call of the code means in `rules`.
+pub mod Meaning
