@@ -1,0 +1,13 @@
+-- The Rust's defaults: P2 50, P2* 5000, no overall timeout, server timing on, strict on.
+use mathlib.Core.Bool.{true}
+use Rattle.exchange.specs.declared.types.RequestTimeout.the-variants.{Never}
+use Rattle.uds.specs.declared.config.UDSConfig.{UDSConfig}
+
+abbrev pub defaults : UDSConfig
+defaults = record {
+  «p2_timeout» = 50;
+  «p2_star_timeout» = 5000;
+  «request_timeout» = Never;
+  «use_server_timing» = true;
+  strict = true;
+}

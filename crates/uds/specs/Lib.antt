@@ -1,0 +1,3 @@
+-- What the contracts of `uds` cite besides `rules`.
+pub mod Defaults
+pub mod Typed

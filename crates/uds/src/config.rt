@@ -1,0 +1,33 @@
+// How a client makes its calls.
+use exchange::types::RequestTimeout;
+ghost use mathlib.Core.Path.{_≡_};
+ghost use Rattle.uds.specs.Defaults.{defaults};
+
+// Configuration for a `UDSClient`, times in milliseconds.
+pub struct UDSConfig {
+    // Initial response wait. When suppression is requested, silence through this window is successful unless NRC 0x78 was received.
+    pub p2_timeout: u32,
+    // Response wait after each NRC 0x78; each pending response restarts this wait.
+    pub p2_star_timeout: u32,
+    // Overall limit, including all pending responses.
+    pub request_timeout: RequestTimeout,
+    // Adopt P2/P2* reported by DiagnosticSessionControl.
+    pub use_server_timing: bool,
+    // Whether responses are validated against ISO 14229-1:2013.
+    pub strict: bool,
+}
+
+impl UDSConfig {
+    // P2 50 ms, P2* five seconds, no overall limit, server timing and strict on.
+    pub fn default() -> UDSConfig
+        ensures { λ r. ⌜ r ≡ defaults ⌝ }
+    {
+        UDSConfig {
+            p2_timeout: 50,
+            p2_star_timeout: 5000,
+            request_timeout: RequestTimeout::Never,
+            use_server_timing: true,
+            strict: true,
+        }
+    }
+}
