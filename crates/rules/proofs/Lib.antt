@@ -10,3 +10,4 @@ pub mod Examples
 pub mod Layouts
 pub mod Unique
 pub mod Counts
+pub mod Unrefused
