@@ -1,2 +1,5 @@
--- What the code's values mean in `rules`.
+-- What the code's values mean in `rules`, and what the contracts say beside that: where places lie, and how counts stand for times.
 pub mod Meaning
+pub mod Places
+pub mod Counts
+pub mod Guarded

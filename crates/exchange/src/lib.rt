@@ -1,3 +1,289 @@
-// The exchange over a lent event list: its types so far.
+// The exchange over a lent event list: "The exchange reads until one event settles it".
+use checks::look;
+use checks::suppresses;
+use events::event_at;
+use events::named;
+use events::within_limits;
+use types::Answer;
+use types::Asked;
+use types::Event;
+use types::Outcome;
+use types::Place;
+use types::RequestTimeout;
+use types::Settled;
+use types::Step;
+use types::SubFunction;
+use types::Turned;
+ghost use mathlib.Core.Path.{_≡_};
+ghost use mathlib.Core.Bool.{Bool};
+ghost use mathlib.Core.List.{List, map, _∷_};
+ghost use Prim.Native.Nat.{ℕ, _<_, _≤_, _^_};
+ghost use Rattle.rules.specs.Events.{eventOf, entries, withinLimits};
+ghost use Rattle.rules.specs.Exchange as rules;
+ghost use Rattle.exchange.specs.Meaning.{askedOf, limitOf, entryOf, outcomeOf, settledOf};
+ghost use Rattle.exchange.specs.Places.{Silent, Turns, Answers};
+ghost use Rattle.exchange.specs.Counts.{tallyOf, inTime, Under};
+ghost use Rattle.exchange.specs.Guarded.{guarded};
+
+pub mod checks;
 pub mod error;
+pub mod events;
 pub mod types;
+
+// "a negative or positive with suppression waits until P2 if later"
+fn waits(outcome: Outcome) -> bool
+    ensures { λ r. ⌜ ((replies : List ℕ) → r ≡ rules.waits (outcomeOf replies outcome)) ⌝ }
+{
+    match outcome {
+        Outcome::PositiveResponse(_) => true,
+        Outcome::NegativeResponse(_) => true,
+        Outcome::Suppressed => false,
+        Outcome::Timeout => false,
+        Outcome::Disconnected => false,
+        Outcome::Transport(_) => false,
+        Outcome::ProtocolDeviation(_) => false,
+        Outcome::InvalidResponseLength => false,
+        Outcome::BlockLengthOverflow => false,
+        Outcome::Refused(_) => false,
+    }
+}
+
+fn finish(asked: Asked, outcome: Outcome, time: u64) -> u64
+    ensures { λ r. ⌜ ((replies : List ℕ) → r ≡ rules.finish (askedOf asked) (outcomeOf replies outcome) time) ⌝ }
+{
+    let sub = asked.sub;
+    let p2 = asked.p2 as u64;
+    if waits(outcome) {
+        if suppresses(sub) {
+            if time < p2 {
+                return p2;
+            }
+        }
+    }
+    time
+}
+
+// What one event in time does. "Idle changes nothing. End gives disconnected, error gives transport."
+pub fn turn(strict: bool, asked: Asked, hush: bool, event: Event, replies: &[u8]) -> Turned
+    ensures { λ r. ⌜ Turns strict (askedOf asked) hush (entryOf event) (now (replies .entry)) r ⌝ }
+{
+    let kind = event.kind;
+    let time = event.time as u64;
+    let star = asked.star as u64;
+    if kind == 0 {
+        let reply = named(event, replies);
+        match look(strict, asked, hush, replies, reply) {
+            Step::Pending => {
+                return Turned::Notice(time + star);
+            }
+            Step::Settles(outcome) => {
+                let finished = finish(asked, outcome, time);
+                return Turned::Ends(Settled {
+                    outcome,
+                    time: finished,
+                    reply,
+                });
+            }
+        }
+    }
+    if kind == 1 {
+        return Turned::Idle;
+    }
+    if kind == 2 {
+        return Turned::Ends(Settled {
+            outcome: Outcome::Disconnected,
+            time,
+            reply: Place { at: 0, len: 0 },
+        });
+    }
+    Turned::Ends(Settled {
+        outcome: Outcome::Transport(event.size),
+        time,
+        reply: Place { at: 0, len: 0 },
+    })
+}
+
+// "No event in time: suppressed if bit 7 of the sub-function is set and no pending was read, else timeout. It finishes at the deadline."
+fn silence(hush: bool, deadline: u64) -> Settled
+    ensures { λ r. ⌜ Silent hush deadline r ⌝ }
+{
+    if hush {
+        Settled {
+            outcome: Outcome::Suppressed,
+            time: deadline,
+            reply: Place { at: 0, len: 0 },
+        }
+    } else {
+        Settled {
+            outcome: Outcome::Timeout,
+            time: deadline,
+            reply: Place { at: 0, len: 0 },
+        }
+    }
+}
+
+// How many events and notices were read, and how many of each at times up to T.
+struct Tally {
+    events: usize,
+    notices: usize,
+    early: usize,
+    heard: usize,
+}
+
+fn in_time(timeout: RequestTimeout, time: u64) -> bool
+    ensures { λ r. ⌜ r ≡ inTime (limitOf timeout) time ⌝ }
+{
+    match timeout {
+        RequestTimeout::Never => true,
+        RequestTimeout::At(limit) => time <= limit as u64,
+    }
+}
+
+// One event more at this time.
+fn read(tally: Tally, timeout: RequestTimeout, time: u64) -> Tally
+    requires { ⌜ (tally .events < 2 ^ 63) × (tally .early ≤ tally .events) ⌝ }
+    ensures { λ r. ⌜ ((es ns : List ℕ) → tally ≡ tallyOf (limitOf timeout) es ns → r ≡ tallyOf (limitOf timeout) (time ∷ es) ns) ⌝ }
+{
+    if in_time(timeout, time) {
+        Tally {
+            events: tally.events + 1,
+            notices: tally.notices,
+            early: tally.early + 1,
+            heard: tally.heard,
+        }
+    } else {
+        Tally {
+            events: tally.events + 1,
+            notices: tally.notices,
+            early: tally.early,
+            heard: tally.heard,
+        }
+    }
+}
+
+// One notice more at this time.
+fn noted(tally: Tally, timeout: RequestTimeout, time: u64) -> Tally
+    requires { ⌜ (tally .notices < 2 ^ 63) × (tally .heard ≤ tally .notices) ⌝ }
+    ensures { λ r. ⌜ ((es ns : List ℕ) → tally ≡ tallyOf (limitOf timeout) es ns → r ≡ tallyOf (limitOf timeout) es (time ∷ ns)) ⌝ }
+{
+    if in_time(timeout, time) {
+        Tally {
+            events: tally.events,
+            notices: tally.notices + 1,
+            early: tally.early,
+            heard: tally.heard + 1,
+        }
+    } else {
+        Tally {
+            events: tally.events,
+            notices: tally.notices + 1,
+            early: tally.early,
+            heard: tally.heard,
+        }
+    }
+}
+
+// "If that time exceeds T, the outcome is timeout at T." "Under a timeout at T these count only events at times up to T."
+fn under(timeout: RequestTimeout, settled: Settled, tally: Tally) -> Answer
+    ensures { λ r. ⌜ Under timeout settled tally r ⌝ }
+{
+    let outcome = settled.outcome;
+    let reply = settled.reply;
+    match timeout {
+        RequestTimeout::Never => Answer {
+            outcome,
+            time: settled.time,
+            events: tally.events,
+            notices: tally.notices,
+            reply,
+        },
+        RequestTimeout::At(limit) => {
+            let limit = limit as u64;
+            if settled.time <= limit {
+                Answer {
+                    outcome,
+                    time: settled.time,
+                    events: tally.events,
+                    notices: tally.notices,
+                    reply,
+                }
+            } else {
+                Answer {
+                    outcome: Outcome::Timeout,
+                    time: limit,
+                    events: tally.early,
+                    notices: tally.heard,
+                    reply: Place { at: 0, len: 0 },
+                }
+            }
+        }
+    }
+}
+
+fn settle(
+    strict: bool,
+    asked: Asked,
+    timeout: RequestTimeout,
+    events: &[u8],
+    replies: &[u8],
+) -> Answer
+    requires { ⌜ withinLimits (now events) (now replies) ≡ Bool.true ⌝ }
+    ensures { λ r. ⌜ Answers (now (replies .entry)) r (rules.exchange strict (askedOf asked) (limitOf timeout) (map (eventOf (now (replies .entry))) (entries (now (events .entry))))) ⌝ }
+{
+    let n = events.len() / 10;
+    let sub = asked.sub;
+    let p2 = asked.p2 as u64;
+    let mut i = 0;
+    let mut hush = suppresses(sub);
+    let mut deadline = p2;
+    let mut tally = Tally {
+        events: 0,
+        notices: 0,
+        early: 0,
+        heard: 0,
+    };
+    let answer = loop {
+        if i >= n {
+            break under(timeout, silence(hush, deadline), tally);
+        }
+        let event = event_at(events, i);
+        let time = event.time as u64;
+        if time > deadline {
+            break under(timeout, silence(hush, deadline), tally);
+        }
+        i += 1;
+        tally = read(tally, timeout, time);
+        match turn(strict, asked, hush, event, replies) {
+            Turned::Idle => {}
+            Turned::Notice(next) => {
+                tally = noted(tally, timeout, time);
+                hush = false;
+                deadline = next;
+            }
+            Turned::Ends(settled) => break under(timeout, settled, tally),
+        }
+    };
+    answer
+}
+
+// An event list that breaks a limit is refused with 10. "Refused: the number, time and counts 0"
+pub fn exchange(
+    strict: bool,
+    asked: Asked,
+    timeout: RequestTimeout,
+    events: &[u8],
+    replies: &[u8],
+) -> Answer
+    ensures { λ r. ⌜ Answers (now (replies .entry)) r (guarded strict (askedOf asked) (limitOf timeout) (now (events .entry)) (now (replies .entry))) ⌝ }
+{
+    if !within_limits(events, replies) {
+        return Answer {
+            outcome: Outcome::Refused(10),
+            time: 0,
+            events: 0,
+            notices: 0,
+            reply: Place { at: 0, len: 0 },
+        };
+    }
+    settle(strict, asked, timeout, events, replies)
+}

@@ -1,0 +1,12 @@
+-- The exchange over a lent event list: refused with 10 where the list breaks a limit.
+use Prim.Native.Nat.{ℕ}
+use mathlib.Core.Bool.{Bool, cond}
+use mathlib.Core.List.{List, map}
+use mathlib.Core.Option.{Option}
+use Rattle.rules.specs.Answers.{Answer, refusal}
+use Rattle.rules.specs.Events.{eventOf, entries, withinLimits}
+use Rattle.rules.specs.Exchange.{Asked, exchange}
+
+unfoldable pub guarded : Bool → Asked → Option ℕ → List ℕ → List ℕ → Answer
+guarded m a limit events replies =
+    cond (withinLimits events replies) (exchange m a limit (map (eventOf replies) (entries events))) (refusal 10)
