@@ -10,13 +10,13 @@ use borrow.Author.Tests.{lt-leb}
 use lib.Dec.{leb}
 use lib.ListN.{length}
 use Rattle.rules.specs.Events.{upTo}
-use Rattle.exchange.specs.declared.Tally.{Tally}
+use Rattle.exchange.specs.declared.Count.{Count}
 use Rattle.rules.specs.Exchange.{under}
 use Rattle.exchange.specs.declared.types.Settled.{Settled}
 use Rattle.exchange.specs.declared.types.Outcome.the-variants.{Timeout}
 use Rattle.exchange.specs.Meaning.{settledOf}
 use Rattle.exchange.specs.Places.{Inside, InsideOutcome, Answers}
-use Rattle.exchange.specs.Counts.{inTime, countTo, tallyOf}
+use Rattle.exchange.specs.Counts.{inTime, countTo, countOf}
 
 module _ (t : ℕ) (ts : List ℕ) where
   count-in : (limit : Option ℕ) → inTime limit t ≡ true → countTo limit (t ∷ ts) ≡ countTo limit ts + 1
@@ -40,28 +40,22 @@ pub count-none : (limit : Option ℕ) → countTo limit [] ≡ 0
 count-none none = refl
 count-none (some limit) = refl
 
--- Counts are as large as the lists, and those up to T no larger.
-pub tally-most : (limit : Option ℕ) (es ns : List ℕ) (y : Tally) → y ≡ tallyOf limit es ns → (y .events ≡ length es) × (y .early ≤ length es) × (y .notices ≡ length ns) × (y .heard ≤ length ns)
-tally-most limit es ns y e = rw e (refl, count-most limit es, refl, count-most limit ns)
+-- A count is as large as the list, and that up to T no larger.
+pub count-size : (limit : Option ℕ) (ts : List ℕ) (k : Count) → k ≡ countOf limit ts → (k .all ≡ length ts) × (k .early ≤ length ts)
+count-size limit ts k e = rw e (refl, count-most limit ts)
 
-module _ (limit : Option ℕ) (t : ℕ) (es ns : List ℕ) (y : Tally) (counts : y ≡ tallyOf limit es ns) where
-  pub read-early : inTime limit t ≡ true → record { events = y .events + 1; notices = y .notices; early = y .early + 1; heard = y .heard } ≡ tallyOf limit (t ∷ es) ns
-  read-early h = rw (counts, count-in t es limit h, add-one (length es))
+module _ (limit : Option ℕ) (t : ℕ) (ts : List ℕ) (k : Count) (counts : k ≡ countOf limit ts) where
+  pub one-early : inTime limit t ≡ true → record { all = k .all + 1; early = k .early + 1 } ≡ countOf limit (t ∷ ts)
+  one-early h = rw (counts, count-in t ts limit h, add-one (length ts))
 
-  pub read-late : inTime limit t ≡ false → record { events = y .events + 1; notices = y .notices; early = y .early; heard = y .heard } ≡ tallyOf limit (t ∷ es) ns
-  read-late h = rw (counts, count-out t es limit h, add-one (length es))
-
-  pub noted-early : inTime limit t ≡ true → record { events = y .events; notices = y .notices + 1; early = y .early; heard = y .heard + 1 } ≡ tallyOf limit es (t ∷ ns)
-  noted-early h = rw (counts, count-in t ns limit h, add-one (length ns))
-
-  pub noted-late : inTime limit t ≡ false → record { events = y .events; notices = y .notices + 1; early = y .early; heard = y .heard } ≡ tallyOf limit es (t ∷ ns)
-  noted-late h = rw (counts, count-out t ns limit h, add-one (length ns))
+  pub one-late : inTime limit t ≡ false → record { all = k .all + 1; early = k .early } ≡ countOf limit (t ∷ ts)
+  one-late h = rw (counts, count-out t ts limit h, add-one (length ts))
 
 -- The answer of a settled exchange: as it is, or cut at T.
-module _ (l : List ℕ) (s : Settled) (es ns : List ℕ) (y : Tally) where
-  pub under-all : (limit : Option ℕ) → y ≡ tallyOf limit es ns → inTime limit (s .time) ≡ true → InsideOutcome l (s .outcome) → Inside l (s .reply) → Answers l (record { outcome = s .outcome; time = s .time; events = y .events; notices = y .notices; reply = s .reply }) (under limit (settledOf l s es ns))
-  under-all none e h o p = record { means = rw e; outcome = o; reply = p }
-  under-all (some limit) e h o p = record { means = rw (e, h); outcome = o; reply = p }
+module _ (l : List ℕ) (s : Settled) (es ns : List ℕ) (events notices : Count) where
+  pub under-all : (limit : Option ℕ) → events ≡ countOf limit es → notices ≡ countOf limit ns → inTime limit (s .time) ≡ true → InsideOutcome l (s .outcome) → Inside l (s .reply) → Answers l (record { outcome = s .outcome; time = s .time; events = events .all; notices = notices .all; reply = s .reply }) (under limit (settledOf l s es ns))
+  under-all none e f h o p = record { means = rw (e, f); outcome = o; reply = p }
+  under-all (some limit) e f h o p = record { means = rw (e, f, h); outcome = o; reply = p }
 
-  pub under-cut : (limit : Option ℕ) (t : ℕ) → limit ≡ some t → y ≡ tallyOf limit es ns → t < s .time → Answers l (record { outcome = Timeout; time = t; events = y .early; notices = y .heard; reply = record { at = 0; len = 0 } }) (under limit (settledOf l s es ns))
-  under-cut limit t i e h = record { means = rw (e, i, lt-leb (s .time) t h); outcome = tt; reply = omega arith }
+  pub under-cut : (limit : Option ℕ) (t : ℕ) → limit ≡ some t → events ≡ countOf limit es → notices ≡ countOf limit ns → t < s .time → Answers l (record { outcome = Timeout; time = t; events = events .early; notices = notices .early; reply = record { at = 0; len = 0 } }) (under limit (settledOf l s es ns))
+  under-cut limit t i e f h = record { means = rw (e, f, i, lt-leb (s .time) t h); outcome = tt; reply = omega arith }

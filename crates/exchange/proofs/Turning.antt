@@ -20,20 +20,21 @@ use Rattle.exchange.specs.Meaning.{outcomeOf, stepOf, partOf}
 use Rattle.exchange.specs.Places.{Looked, Named, Turns, resume}
 use Rattle.exchange.proofs.Entries.{next-entry, no-entry, time-of}
 
-module _ (m : Bool) (a : Asked) (hush : Bool) (e : Entry) (l : List ℕ) where
-  module _ (kind : e .kind ≡ 0) (p : Place) (place : Named l e p) (s : Step) (seen : Looked l s (look m a hush (partOf l p))) where
-    step : look m a hush (named l e) ≡ stepOf l s
-    step = ap (look m a hush) (sym (place .means)) ∙ sym (seen .means)
+-- The reply that an event names is judged as the part at its place is.
+seen-as : (m : Bool) (a : Asked) (hush : Bool) {e : Entry} {l : List ℕ} {p : Place} {s : Step} → Named l e p → Looked l s (look m a hush (partOf l p)) → look m a hush (named l e) ≡ stepOf l s
+seen-as m a hush place seen = ap (look m a hush) (sym (place .means)) ∙ sym (seen .means)
 
+module _ {m : Bool} {a : Asked} {hush : Bool} {e : Entry} {l : List ℕ} where
+  module _ (kind : e .kind ≡ 0) {p : Place} (place : Named l e p) {s : Step} (seen : Looked l s (look m a hush (partOf l p))) where
     pub turns-notice : s ≡ Pending → Turns m a hush e l (Notice (e .time + a .star))
     turns-notice h = record {
-      means = λ on d es ns. rw (eq-eqb (e .kind) 0 kind, step, h);
+      means = λ on d es ns. rw (eq-eqb (e .kind) 0 kind, seen-as m a hush place seen, h);
       placed = tt;
     }
 
-    pub turns-reply : (o : Outcome) (t : ℕ) → s ≡ Settles o → t ≡ finish a (outcomeOf l o) (e .time) → Turns m a hush e l (Ends (record { outcome = o; time = t; reply = p }))
-    turns-reply o t h f = record {
-      means = λ on d es ns. rw (eq-eqb (e .kind) 0 kind, step, h, f, ← (place .means));
+    pub turns-reply : {o : Outcome} {t : ℕ} → s ≡ Settles o → t ≡ finish a (outcomeOf l o) (e .time) → Turns m a hush e l (Ends (record { outcome = o; time = t; reply = p }))
+    turns-reply h f = record {
+      means = λ on d es ns. rw (eq-eqb (e .kind) 0 kind, seen-as m a hush place seen, h, f, ← (place .means));
       placed = record { outcome = rw h at (seen .inside); whole = place .whole; starts = rw (eq-eqb (e .kind) 0 kind) (omega (arith, ap (λ x. x .at) (place .means))) };
     }
 

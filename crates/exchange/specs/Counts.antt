@@ -8,7 +8,7 @@ use lib.Dec.{leb}
 use lib.ListN.{length}
 use Rattle.rules.specs.Events.{upTo}
 use Rattle.rules.specs.Exchange as exchange
-use Rattle.exchange.specs.declared.Tally.{Tally}
+use Rattle.exchange.specs.declared.Count.{Count}
 use Rattle.exchange.specs.declared.types.RequestTimeout.{RequestTimeout}
 use Rattle.exchange.specs.declared.types.Settled.{Settled}
 use Rattle.exchange.specs.declared.types.Answer.{Answer}
@@ -23,11 +23,10 @@ abbrev pub countTo : Option ℕ → List ℕ → ℕ
 countTo none ts = length ts
 countTo (some limit) ts = upTo limit ts
 
-abbrev pub tallyOf : Option ℕ → List ℕ → List ℕ → Tally
-tallyOf limit es ns = record { events = length es; notices = length ns; early = countTo limit es; heard = countTo limit ns }
+abbrev pub countOf : Option ℕ → List ℕ → Count
+countOf limit ts = record { all = length ts; early = countTo limit ts }
 
--- An answer under T, whatever times the counts stand for.
-abbrev pub Under : RequestTimeout → Settled → Tally → Answer → Type 0
-Under timeout s y r =
-    (replies es ns : List ℕ) → y ≡ tallyOf (limitOf timeout) es ns → InsideOutcome replies (s .outcome) → Inside replies (s .reply)
-    → Answers replies r (exchange.under (limitOf timeout) (settledOf replies s es ns))
+-- An answer under T, whatever times the counts of events and of notices stand for.
+abbrev pub Under : RequestTimeout → Settled → Count → Count → Answer → Type 0
+Under timeout s events notices r =
+    (replies es ns : List ℕ) → events ≡ countOf (limitOf timeout) es → notices ≡ countOf (limitOf timeout) ns → InsideOutcome replies (s .outcome) → Inside replies (s .reply) → Answers replies r (exchange.under (limitOf timeout) (settledOf replies s es ns))

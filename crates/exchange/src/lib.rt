@@ -22,7 +22,7 @@ ghost use Rattle.rules.specs.Events.{eventOf, entries, withinLimits};
 ghost use Rattle.rules.specs.Exchange as rules;
 ghost use Rattle.exchange.specs.Meaning.{askedOf, limitOf, entryOf, outcomeOf, settledOf};
 ghost use Rattle.exchange.specs.Places.{Silent, Turns, Answers};
-ghost use Rattle.exchange.specs.Counts.{tallyOf, inTime, Under};
+ghost use Rattle.exchange.specs.Counts.{countOf, inTime, Under};
 ghost use Rattle.exchange.specs.Guarded.{guarded};
 
 pub mod checks;
@@ -93,13 +93,13 @@ pub fn turn(strict: bool, asked: Asked, hush: bool, event: Event, replies: &[u8]
         return Turned::Ends(Settled {
             outcome: Outcome::Disconnected,
             time,
-            reply: Place { at: 0, len: 0 },
+            reply: Place::NOWHERE,
         });
     }
     Turned::Ends(Settled {
         outcome: Outcome::Transport(event.size),
         time,
-        reply: Place { at: 0, len: 0 },
+        reply: Place::NOWHERE,
     })
 }
 
@@ -111,23 +111,21 @@ fn silence(hush: bool, deadline: u64) -> Settled
         Settled {
             outcome: Outcome::Suppressed,
             time: deadline,
-            reply: Place { at: 0, len: 0 },
+            reply: Place::NOWHERE,
         }
     } else {
         Settled {
             outcome: Outcome::Timeout,
             time: deadline,
-            reply: Place { at: 0, len: 0 },
+            reply: Place::NOWHERE,
         }
     }
 }
 
-// How many events and notices were read, and how many of each at times up to T.
-struct Tally {
-    events: usize,
-    notices: usize,
+// How many events or notices were read, and how many of them at times up to T.
+struct Count {
+    all: usize,
     early: usize,
-    heard: usize,
 }
 
 fn in_time(timeout: RequestTimeout, time: u64) -> bool
@@ -139,87 +137,57 @@ fn in_time(timeout: RequestTimeout, time: u64) -> bool
     }
 }
 
-// One event more at this time.
-fn read(tally: Tally, timeout: RequestTimeout, time: u64) -> Tally
-    requires { ⌜ (tally .events < 2 ^ 63) × (tally .early ≤ tally .events) ⌝ }
-    ensures { λ r. ⌜ ((es ns : List ℕ) → tally ≡ tallyOf (limitOf timeout) es ns → r ≡ tallyOf (limitOf timeout) (time ∷ es) ns) ⌝ }
+// One more, at this time.
+fn counted(count: Count, timeout: RequestTimeout, time: u64) -> Count
+    requires { ⌜ (count .all < 2 ^ 63) × (count .early ≤ count .all) ⌝ }
+    ensures { λ r. ⌜ ((ts : List ℕ) → count ≡ countOf (limitOf timeout) ts → r ≡ countOf (limitOf timeout) (time ∷ ts)) ⌝ }
 {
     if in_time(timeout, time) {
-        Tally {
-            events: tally.events + 1,
-            notices: tally.notices,
-            early: tally.early + 1,
-            heard: tally.heard,
+        Count {
+            all: count.all + 1,
+            early: count.early + 1,
         }
     } else {
-        Tally {
-            events: tally.events + 1,
-            notices: tally.notices,
-            early: tally.early,
-            heard: tally.heard,
-        }
-    }
-}
-
-// One notice more at this time.
-fn noted(tally: Tally, timeout: RequestTimeout, time: u64) -> Tally
-    requires { ⌜ (tally .notices < 2 ^ 63) × (tally .heard ≤ tally .notices) ⌝ }
-    ensures { λ r. ⌜ ((es ns : List ℕ) → tally ≡ tallyOf (limitOf timeout) es ns → r ≡ tallyOf (limitOf timeout) es (time ∷ ns)) ⌝ }
-{
-    if in_time(timeout, time) {
-        Tally {
-            events: tally.events,
-            notices: tally.notices + 1,
-            early: tally.early,
-            heard: tally.heard + 1,
-        }
-    } else {
-        Tally {
-            events: tally.events,
-            notices: tally.notices + 1,
-            early: tally.early,
-            heard: tally.heard,
+        Count {
+            all: count.all + 1,
+            early: count.early,
         }
     }
 }
 
 // "If that time exceeds T, the outcome is timeout at T." "Under a timeout at T these count only events at times up to T."
-fn under(timeout: RequestTimeout, settled: Settled, tally: Tally) -> Answer
-    ensures { λ r. ⌜ Under timeout settled tally r ⌝ }
+fn under(timeout: RequestTimeout, settled: Settled, events: Count, notices: Count) -> Answer
+    ensures { λ r. ⌜ Under timeout settled events notices r ⌝ }
 {
     let outcome = settled.outcome;
     let reply = settled.reply;
+    let whole = Answer {
+        outcome,
+        time: settled.time,
+        events: events.all,
+        notices: notices.all,
+        reply,
+    };
     match timeout {
-        RequestTimeout::Never => Answer {
-            outcome,
-            time: settled.time,
-            events: tally.events,
-            notices: tally.notices,
-            reply,
-        },
+        RequestTimeout::Never => whole,
         RequestTimeout::At(limit) => {
             let limit = limit as u64;
             if settled.time <= limit {
-                Answer {
-                    outcome,
-                    time: settled.time,
-                    events: tally.events,
-                    notices: tally.notices,
-                    reply,
-                }
+                whole
             } else {
                 Answer {
                     outcome: Outcome::Timeout,
                     time: limit,
-                    events: tally.early,
-                    notices: tally.heard,
-                    reply: Place { at: 0, len: 0 },
+                    events: events.early,
+                    notices: notices.early,
+                    reply: Place::NOWHERE,
                 }
             }
         }
     }
 }
 
+// The loop over the list, with the deadline carried. "An event exactly at a deadline is in time."
 fn settle(
     strict: bool,
     asked: Asked,
@@ -236,31 +204,27 @@ fn settle(
     let mut i = 0;
     let mut hush = suppresses(sub);
     let mut deadline = p2;
-    let mut tally = Tally {
-        events: 0,
-        notices: 0,
-        early: 0,
-        heard: 0,
-    };
+    let mut read = Count { all: 0, early: 0 };
+    let mut notices = Count { all: 0, early: 0 };
     let answer = loop {
         if i >= n {
-            break under(timeout, silence(hush, deadline), tally);
+            break under(timeout, silence(hush, deadline), read, notices);
         }
         let event = event_at(events, i);
         let time = event.time as u64;
         if time > deadline {
-            break under(timeout, silence(hush, deadline), tally);
+            break under(timeout, silence(hush, deadline), read, notices);
         }
         i += 1;
-        tally = read(tally, timeout, time);
+        read = counted(read, timeout, time);
         match turn(strict, asked, hush, event, replies) {
             Turned::Idle => {}
             Turned::Notice(next) => {
-                tally = noted(tally, timeout, time);
+                notices = counted(notices, timeout, time);
                 hush = false;
                 deadline = next;
             }
-            Turned::Ends(settled) => break under(timeout, settled, tally),
+            Turned::Ends(settled) => break under(timeout, settled, read, notices),
         }
     };
     answer
@@ -282,7 +246,7 @@ pub fn exchange(
             time: 0,
             events: 0,
             notices: 0,
-            reply: Place { at: 0, len: 0 },
+            reply: Place::NOWHERE,
         };
     }
     settle(strict, asked, timeout, events, replies)

@@ -1,10 +1,14 @@
 // What an exchange is asked, what it reads, and what it answers: plain data by value, with places into the lent reply bytes.
 use crate::error::ProtocolDeviation;
 
-// A part of the lent reply bytes; (0, 0) where there is none.
+// A part of the lent reply bytes.
 pub struct Place {
     pub at: usize,
     pub len: usize,
+}
+
+impl Place {
+    pub const NOWHERE: Place = Place { at: 0, len: 0 };
 }
 
 pub enum SubFunction {

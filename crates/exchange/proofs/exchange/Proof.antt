@@ -1,8 +1,8 @@
 -- `exchange::exchange` meets its contract.
 use native.Mathlib.Omega.{arith}
 use mathlib.Core.Path.{sym, _∙_}
-use borrow.Author.Needs.{needs}
 use borrow.Author.Tests.{not-true, not-false}
+use borrow.Author.Needs.{needs}
 use Rattle.exchange.specs.Guarded.{guarded}
 use Rattle.exchange.proofs.exchange.Statement.{statement}
 use Rattle.exchange.proofs.exchange.Tie as tie

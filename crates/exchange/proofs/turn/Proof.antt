@@ -1,7 +1,6 @@
 -- `exchange::turn` meets its contract.
 use borrow.Author.Needs.{needs}
 use Rattle.exchange.proofs.Turning.{turns-notice, turns-reply, turns-idle, turns-ended, turns-failed}
-use Rattle.exchange.specs.Meaning.{askedOf, entryOf}
 use Rattle.exchange.proofs.turn.Statement.{statement}
 use Rattle.exchange.proofs.turn.Tie as tie
 
@@ -24,7 +23,7 @@ add-t14 : tie.Need-add-t14
 add-t14 c = search needs
 
 returns : tie.Need-returns
-returns c = let a = c .before .before .before .before .before .before .before .before .args in turns-notice (a .strict) (askedOf (a .asked)) (a .hush) (entryOf (a .event)) (a .replies .now) (c .before .before .before .before .if1 .taken) (c .before .before .before .named .result) (c .before .before .before .named .ensures) (c .before .before .look .result) (c .before .before .look .ensures) (c .enum-told .given .1)
+returns c = turns-notice (c .before .before .before .before .if1 .taken) (c .before .before .before .named .ensures) (c .before .before .look .ensures) (c .enum-told .given .1)
 
 enum-known-outcome : tie.Need-enum-known-outcome
 enum-known-outcome c = search needs
@@ -33,16 +32,16 @@ finish-requires : tie.Need-finish-requires
 finish-requires c κs = search needs
 
 returns-2 : tie.Need-returns-2
-returns-2 c = let a = c .before .before .before .before .before .before .before .before .before .before .args in turns-reply (a .strict) (askedOf (a .asked)) (a .hush) (entryOf (a .event)) (a .replies .now) (c .before .before .before .before .before .before .if1 .taken) (c .before .before .before .before .before .named .result) (c .before .before .before .before .before .named .ensures) (c .before .before .before .before .look .result) (c .before .before .before .before .look .ensures) (c .before .before .outcome .given .0 .0) (c .finish .result) (c .before .before .outcome .given .1) ((c .finish .ensures) (a .replies .now))
+returns-2 c = turns-reply (c .before .before .before .before .before .before .if1 .taken) (c .before .before .before .before .before .named .ensures) (c .before .before .before .before .look .ensures) (c .before .before .outcome .given .1) ((c .finish .ensures) (c .before .before .before .before .before .before .before .before .before .before .args .replies .now))
 
 returns-3 : tie.Need-returns-3
-returns-3 c = let a = c .before .before .before .before .before .args in turns-idle (a .strict) (askedOf (a .asked)) (a .hush) (entryOf (a .event)) (a .replies .now) (c .before .if1 .left) (c .if2 .taken)
+returns-3 c = turns-idle (c .before .if1 .left) (c .if2 .taken)
 
 returns-4 : tie.Need-returns-4
-returns-4 c = let a = c .before .before .before .before .before .before .args in turns-ended (a .strict) (askedOf (a .asked)) (a .hush) (entryOf (a .event)) (a .replies .now) (c .before .before .if1 .left) (c .before .if2 .left) (c .if3 .taken)
+returns-4 c = turns-ended (c .before .before .if1 .left) (c .before .if2 .left) (c .if3 .taken)
 
 returns-5 : tie.Need-returns-5
-returns-5 c = let a = c .before .before .before .before .before .before .args in turns-failed (a .strict) (askedOf (a .asked)) (a .hush) (entryOf (a .event)) (a .replies .now) (c .before .before .if1 .left) (c .before .if2 .left) (c .if3 .left)
+returns-5 c = turns-failed (c .before .before .if1 .left) (c .before .if2 .left) (c .if3 .left)
 
 pub turn-spec : {M : Type 1} → statement M
 turn-spec =

@@ -1,14 +1,14 @@
 -- `exchange::checks::look` meets its contract.
 use native.Mathlib.Omega.{arith}
 use mathlib.Core.Path.{sym, ap, _∙_}
-use borrow.Author.Tests.{eq-eqb, ne-eqb}
 use borrow.Author.Needs.{needs}
-use Rattle.exchange.proofs.Looking.{looked-empty, looked-refused, looked-coded, looked-wrong, head-fits, place-fits, looked-positive}
+use Rattle.exchange.proofs.Looking.{Read, looked-empty, looked-refused, looked-pending, looked-negative, looked-wrong, head-fits, looked-positive}
 use Rattle.exchange.specs.Meaning.{askedOf, verdictOf}
-use Rattle.exchange.specs.declared.types.Step.the-variants.{Pending, Settles}
-use Rattle.exchange.specs.declared.types.Outcome.the-variants.{NegativeResponse}
 use Rattle.exchange.proofs.checks.look.Statement.{statement}
 use Rattle.exchange.proofs.checks.look.Tie as tie
+
+reply : (c : tie.After-part) → Read (c .before .before .args .strict) (askedOf (c .before .before .args .asked)) (c .before .before .args .hush) (c .before .before .args .replies .now) (c .before .before .args .place) (c .part .result .now)
+reply c = record { here = c .part .ensures }
 
 part-requires : tie.Need-part-requires
 part-requires c κs = search needs
@@ -20,11 +20,7 @@ outcome-of-requires : tie.Need-outcome-of-requires
 outcome-of-requires c κs = search needs
 
 returns : tie.Need-returns
-returns c =
-    let a = c .before .before .before .before .before .args in
-    rw (c .outcome-of .ensures)
-    (looked-empty (a .strict) (askedOf (a .asked)) (a .hush) (a .replies .now) (a .place) (c .before .before .before .part .result .now) (c .before .before .before .part .ensures)
-    (c .before .length-error .result) (c .before .before .if1 .taken) (c .before .length-error .ensures))
+returns c = rw (c .outcome-of .ensures) (looked-empty (reply (c .before .before .before)) (c .before .length-error .result) (c .before .before .if1 .taken) (c .before .length-error .ensures))
 
 byte-at-requires : tie.Need-byte-at-requires
 byte-at-requires c κs = search needs
@@ -40,10 +36,8 @@ outcome-of-requires-2 c κs = search needs
 
 returns-2 : tie.Need-returns-2
 returns-2 c =
-    let a = c .before .before .before .before .before .before .before .before .before .before .args in
-    rw (c .outcome-of2 .ensures)
-    (looked-refused (a .strict) (askedOf (a .asked)) (a .hush) (a .replies .now) (a .place) (c .before .before .before .before .before .before .before .before .part .result .now) (c .before .before .before .before .before .before .before .before .part .ensures)
-    (c .before .before .before .before .before .before .before .if1 .left) (sym (c .before .before .before .before .before .before .byte-at .ensures) ∙ (c .before .before .before .before .before .if2 .taken)) (c .before .before .fault .given .0 .0) (ap verdictOf (sym (c .before .before .fault .given .1)) ∙ (c .before .before .before .before .refusing .ensures)))
+    let failed = ap verdictOf (sym (c .before .before .fault .given .1)) ∙ (c .before .before .before .before .refusing .ensures) in
+    rw (c .outcome-of2 .ensures) (looked-refused (reply (c .before .before .before .before .before .before .before .before)) (c .before .before .before .before .before .before .before .if1 .left) (sym (c .before .before .before .before .before .before .byte-at .ensures) ∙ (c .before .before .before .before .before .if2 .taken)) (c .before .before .fault .given .0 .0) failed)
 
 enum-told : tie.Need-enum-told
 enum-told c = search needs
@@ -53,23 +47,13 @@ byte-at-requires-2 c κs = search needs
 
 returns-3 : tie.Need-returns-3
 returns-3 c =
-    let a = c .before .before .before .before .before .before .before .before .before .before .args in
-    record {
-      means = looked-coded (a .strict) (askedOf (a .asked)) (a .hush) (a .replies .now) (a .place) (c .before .before .before .before .before .before .before .before .part .result .now) (c .before .before .before .before .before .before .before .before .part .ensures)
-          (c .before .before .before .before .before .before .before .if1 .left) (sym (c .before .before .before .before .before .before .byte-at .ensures) ∙ (c .before .before .before .before .before .if2 .taken)) Pending (ap verdictOf (sym (c .before .before .enum-told .given .1)) ∙ (c .before .before .before .before .refusing .ensures))
-          (rw (eq-eqb _ 0x78 (sym (c .before .byte-at2 .ensures) ∙ (c .if3 .taken))));
-      inside = tt;
-    }
+    let passed = ap verdictOf (sym (c .before .before .enum-told .given .1)) ∙ (c .before .before .before .before .refusing .ensures) in
+    looked-pending (reply (c .before .before .before .before .before .before .before .before)) (c .before .before .before .before .before .before .before .if1 .left) (sym (c .before .before .before .before .before .before .byte-at .ensures) ∙ (c .before .before .before .before .before .if2 .taken)) passed (sym (c .before .byte-at2 .ensures) ∙ (c .if3 .taken))
 
 returns-4 : tie.Need-returns-4
 returns-4 c =
-    let a = c .before .before .before .before .before .before .before .before .before .before .args in
-    record {
-      means = looked-coded (a .strict) (askedOf (a .asked)) (a .hush) (a .replies .now) (a .place) (c .before .before .before .before .before .before .before .before .part .result .now) (c .before .before .before .before .before .before .before .before .part .ensures)
-          (c .before .before .before .before .before .before .before .if1 .left) (sym (c .before .before .before .before .before .before .byte-at .ensures) ∙ (c .before .before .before .before .before .if2 .taken)) (Settles (NegativeResponse (c .before .byte-at2 .result))) (ap verdictOf (sym (c .before .before .enum-told .given .1)) ∙ (c .before .before .before .before .refusing .ensures))
-          (rw (← (c .before .byte-at2 .ensures), ne-eqb _ 0x78 (c .if3 .left)));
-      inside = tt;
-    }
+    let passed = ap verdictOf (sym (c .before .before .enum-told .given .1)) ∙ (c .before .before .before .before .refusing .ensures) in
+    looked-negative (reply (c .before .before .before .before .before .before .before .before)) (c .before .before .before .before .before .before .before .if1 .left) (sym (c .before .before .before .before .before .before .byte-at .ensures) ∙ (c .before .before .before .before .before .if2 .taken)) passed (c .before .byte-at2 .ensures) (c .if3 .left)
 
 granting-requires : tie.Need-granting-requires
 granting-requires c κs = search needs
@@ -88,31 +72,23 @@ head-requires c κs = search needs
 
 add-t27 : tie.Need-add-t27
 add-t27 c =
-    let a = c .before .before .before .before .before .before .before .before .before .args in
-    let first = rw (c .before .before .before .before .before .byte-at .ensures) at (c .before .before .before .before .if2 .left) in
-    let all = ap verdictOf (sym (c .before .enum-told2 .given .1)) ∙ (c .before .before .before .granting .ensures) in
-    let fits = head-fits (a .strict) (askedOf (a .asked)) (a .hush) (a .replies .now) (a .place) (c .before .before .before .before .before .before .before .part .result .now) (c .before .before .before .before .before .before .before .part .ensures) (c .before .before .before .before .before .before .if1 .left) first (c .head .result) all (c .head .ensures) in
-    let inside = place-fits (a .strict) (askedOf (a .asked)) (a .hush) (a .replies .now) (a .place) (c .before .before .before .before .before .before .before .part .result .now) (c .before .before .before .before .before .before .before .part .ensures) (c .before .before .before .before .before .before .if1 .left) first (c .head .result) all (c .head .ensures) in
-    omega arith
+    let passed = ap verdictOf (sym (c .before .enum-told2 .given .1)) ∙ (c .before .before .before .granting .ensures) in
+    omega (arith, head-fits (reply (c .before .before .before .before .before .before .before)) (c .before .before .before .before .before .before .if1 .left) (rw (c .before .before .before .before .before .byte-at .ensures) at (c .before .before .before .before .if2 .left)) passed (c .head .ensures))
 
 sub-t29 : tie.Need-sub-t29
 sub-t29 c =
-    let a = c .before .before .before .before .before .before .before .before .before .args in
-    head-fits (a .strict) (askedOf (a .asked)) (a .hush) (a .replies .now) (a .place) (c .before .before .before .before .before .before .before .part .result .now) (c .before .before .before .before .before .before .before .part .ensures)
-    (c .before .before .before .before .before .before .if1 .left) (rw (c .before .before .before .before .before .byte-at .ensures) at (c .before .before .before .before .if2 .left)) (c .head .result) (ap verdictOf (sym (c .before .enum-told2 .given .1)) ∙ (c .before .before .before .granting .ensures)) (c .head .ensures)
+    let passed = ap verdictOf (sym (c .before .enum-told2 .given .1)) ∙ (c .before .before .before .granting .ensures) in
+    head-fits (reply (c .before .before .before .before .before .before .before)) (c .before .before .before .before .before .before .if1 .left) (rw (c .before .before .before .before .before .byte-at .ensures) at (c .before .before .before .before .if2 .left)) passed (c .head .ensures) .0
 
 returns-5 : tie.Need-returns-5
 returns-5 c =
-    let a = c .before .before .before .before .before .before .before .before .before .before .args in
-    rw (c .outcome-of3 .ensures)
-    (looked-wrong (a .strict) (askedOf (a .asked)) (a .hush) (a .replies .now) (a .place) (c .before .before .before .before .before .before .before .before .part .result .now) (c .before .before .before .before .before .before .before .before .part .ensures)
-    (c .before .before .before .before .before .before .before .if1 .left) (rw (c .before .before .before .before .before .before .byte-at .ensures) at (c .before .before .before .before .before .if2 .left)) (c .before .before .fault2 .given .0 .0) (ap verdictOf (sym (c .before .before .fault2 .given .1)) ∙ (c .before .before .before .before .granting .ensures)))
+    let failed = ap verdictOf (sym (c .before .before .fault2 .given .1)) ∙ (c .before .before .before .before .granting .ensures) in
+    rw (c .outcome-of3 .ensures) (looked-wrong (reply (c .before .before .before .before .before .before .before .before)) (c .before .before .before .before .before .before .before .if1 .left) (rw (c .before .before .before .before .before .before .byte-at .ensures) at (c .before .before .before .before .before .if2 .left)) (c .before .before .fault2 .given .0 .0) failed)
 
 returns-6 : tie.Need-returns-6
 returns-6 c =
-    let a = c .before .before .before .before .before .before .before .before .before .args in
-    looked-positive (a .strict) (askedOf (a .asked)) (a .hush) (a .replies .now) (a .place) (c .before .before .before .before .before .before .before .part .result .now) (c .before .before .before .before .before .before .before .part .ensures)
-    (c .before .before .before .before .before .before .if1 .left) (rw (c .before .before .before .before .before .byte-at .ensures) at (c .before .before .before .before .if2 .left)) (c .head .result) (ap verdictOf (sym (c .before .enum-told2 .given .1)) ∙ (c .before .before .before .granting .ensures)) (c .head .ensures)
+    let passed = ap verdictOf (sym (c .before .enum-told2 .given .1)) ∙ (c .before .before .before .granting .ensures) in
+    looked-positive (reply (c .before .before .before .before .before .before .before)) (c .before .before .before .before .before .before .if1 .left) (rw (c .before .before .before .before .before .byte-at .ensures) at (c .before .before .before .before .if2 .left)) passed (c .head .ensures)
 
 pub look-spec : {M : Type 1} → statement M
 look-spec =
