@@ -3,7 +3,7 @@ use Prim.Native.Nat.{ℕ, zero, suc, _+_, _-_, _*_, _/_, _%_, _^_, _≤_, _<_}
 use native.Mathlib.Nat.{add-zero, add-assoc}
 use native.Mathlib.Numerals.{add-one}
 use native.Mathlib.Omega.{arith}
-use mathlib.Core.Bool.{Bool, true, false, cond, _&&_, and-false}
+use mathlib.Core.Bool.{Bool, true, false, cond, _&&_, and-true, and-false}
 use mathlib.Core.Path.{_≡_, refl, sym, ap, ap₂, _∙_}
 use mathlib.Core.List.{List, [], _∷_}
 use borrow.Author.Tests.{le-leb, lt-leb, lt-ltb, eq-eqb, ne-eqb, leb-true}
@@ -70,10 +70,6 @@ module _ {A : Type 0} (p : A → Bool) where
 pub are-bytes : (l : List ℕ) → ((i : ℕ) → getD l i 0 < 256) → every isByte l ≡ true
 are-bytes [] h = refl
 are-bytes (x ∷ xs) h = rw (lt-ltb x 256 (h zero)) (are-bytes xs (λ i. h (suc i)))
-
-and-true : (a : Bool) → (a && true) ≡ a
-and-true true = refl
-and-true false = refl
 
 module _ (r : List ℕ) (e : Entry) (time : e .time < 2 ^ 32) where
   pub sound-other : e .size < 2 ^ 16 → (e .kind ≡ 0 → ⊥) → sound r e ≡ leb (e .kind) 3

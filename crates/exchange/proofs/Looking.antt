@@ -12,7 +12,6 @@ use lib.ListN.{length, getD, take, drop}
 use Rattle.rules.specs.Answers as rules
 use Rattle.rules.specs.Answers.{part, lengthError, positive, behind}
 use Rattle.rules.specs.Calls.{head}
-use Rattle.rules.specs.Exchange as exchange
 use Rattle.rules.specs.Exchange.{Asked, settles, wrong, refusing, granting, coded, byFirst, look}
 use Rattle.exchange.specs.declared.error.Fault.{Fault}
 use Rattle.exchange.specs.declared.error.Fault.the-variants as fault

@@ -20,6 +20,7 @@ use Rattle.exchange.specs.declared.types.Turned.the-variants.{Idle, Noti
 use Rattle.exchange.specs.declared.types.Answer.{Answer}
 use Rattle.exchange.specs.Meaning.{limitOf}
 use Rattle.exchange.specs.Places.{Inside, Placed, Turns, Silent, resume, Answers}
+use Rattle.exchange.specs.Guarded.{over}
 use Rattle.exchange.specs.Counts.{countOf, Under}
 use Rattle.exchange.proofs.Entries.{both, next-entry, beginning-inside, all-sound}
 use Rattle.exchange.proofs.Placing.{whole-inside}
@@ -58,7 +59,7 @@ module _ {m : Bool} {a : Asked} (timeout : RequestTimeout) {l r : List ℕ} wher
 
   module _ {n i : ℕ} {hush : Bool} {d : ℕ} {read notices : Count} (at : Held m a (limitOf timeout) l r n i hush d read notices) where
     -- Silence: its answer is the exchange's.
-    silent : {s : Settled} {v : Answer} → Silent hush d s → Under timeout s read notices v → silence hush d (at .es) (at .ns) ≡ begun m a l r → Answers r v (exchange m a (limitOf timeout) (map (eventOf r) (entries l)))
+    silent : {s : Settled} {v : Answer} → Silent hush d s → Under timeout s read notices v → silence hush d (at .es) (at .ns) ≡ begun m a l r → Answers r v (over m a (limitOf timeout) l r)
     unfolding exchange
     silent {s} {v} quiet u e =
         let places = quiet .placed r in
@@ -66,11 +67,11 @@ module _ {m : Bool} {a : Asked} (timeout : RequestTimeout) {l r : List ℕ} wher
         (quiet .means r (at .es) (at .ns) ∙ e)
         (u r (at .es) (at .ns) (at .events) (at .notes) (places .outcome) (whole-inside r (s .reply .at) (s .reply .len) (places .whole) (omega arith)))
 
-    pub no-more : {s : Settled} {v : Answer} → Silent hush d s → Under timeout s read notices v → n ≤ i → Answers r v (exchange m a (limitOf timeout) (map (eventOf r) (entries l)))
+    pub no-more : {s : Settled} {v : Answer} → Silent hush d s → Under timeout s read notices v → n ≤ i → Answers r v (over m a (limitOf timeout) l r)
     no-more quiet u h = silent quiet u (sym (settle-none m a r l n i hush d (at .es) (at .ns) h) ∙ at .same)
 
     module _ {e : Entry} (here : e ≡ entryAt l i) (more : i < n) where
-      pub too-late : {s : Settled} {v : Answer} → Silent hush d s → Under timeout s read notices v → d < e .time → Answers r v (exchange m a (limitOf timeout) (map (eventOf r) (entries l)))
+      pub too-late : {s : Settled} {v : Answer} → Silent hush d s → Under timeout s read notices v → d < e .time → Answers r v (over m a (limitOf timeout) l r)
       too-late quiet u h = silent quiet u (sym (settle-late m a r l n i hush d (at .es) (at .ns) e here more h) ∙ at .same)
 
       rest-sound : (sound r e ≡ true) × (every (sound r) (entriesFrom l (n - (i + 1)) (i + 1)) ≡ true)
@@ -109,7 +110,7 @@ module _ {m : Bool} {a : Asked} (timeout : RequestTimeout) {l r : List ℕ} wher
           same = went (Notice next) p;
         }
 
-        pub ends : {s : Settled} {v : Answer} → x ≡ Ends s → Under timeout s read′ notices v → Answers r v (exchange m a (limitOf timeout) (map (eventOf r) (entries l)))
+        pub ends : {s : Settled} {v : Answer} → x ≡ Ends s → Under timeout s read′ notices v → Answers r v (over m a (limitOf timeout) l r)
         unfolding exchange
         ends {s} {v} p u =
             let places : Placed r _ s = rw p at (turns .placed) in

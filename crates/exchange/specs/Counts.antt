@@ -1,5 +1,5 @@
 -- Counts of events and notices, all of them and those at times up to T, for the lists of times that `rules` carries.
-use Prim.Native.Nat.{ℕ, _+_, _≤_}
+use Prim.Native.Nat.{ℕ}
 use mathlib.Core.Bool.{Bool, true}
 use mathlib.Core.Path.{_≡_}
 use mathlib.Core.List.{List}

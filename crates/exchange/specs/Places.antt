@@ -17,7 +17,7 @@ use Rattle.exchange.specs.declared.types.Settled.{Settled}
 use Rattle.exchange.specs.declared.types.Turned.{Turned}
 use Rattle.exchange.specs.declared.types.Turned.the-variants.{Idle, Notice, Ends}
 use Rattle.exchange.specs.declared.types.Answer.{Answer}
-use Rattle.exchange.specs.Meaning.{partOf, outcomeOf, stepOf, settledOf, answerOf}
+use Rattle.exchange.specs.Meaning.{partOf, stepOf, settledOf, answerOf}
 
 abbrev pub Inside : List ℕ → Place → Type 0
 Inside replies p = p .at + p .len ≤ length replies

@@ -12,18 +12,17 @@ use types::Place;
 use types::RequestTimeout;
 use types::Settled;
 use types::Step;
-use types::SubFunction;
 use types::Turned;
 ghost use mathlib.Core.Path.{_≡_};
 ghost use mathlib.Core.Bool.{Bool};
-ghost use mathlib.Core.List.{List, map, _∷_};
+ghost use mathlib.Core.List.{List, _∷_};
 ghost use Prim.Native.Nat.{ℕ, _<_, _≤_, _^_};
-ghost use Rattle.rules.specs.Events.{eventOf, entries, withinLimits};
+ghost use Rattle.rules.specs.Events.{withinLimits};
 ghost use Rattle.rules.specs.Exchange as rules;
-ghost use Rattle.exchange.specs.Meaning.{askedOf, limitOf, entryOf, outcomeOf, settledOf};
+ghost use Rattle.exchange.specs.Meaning.{askedOf, limitOf, entryOf, outcomeOf};
 ghost use Rattle.exchange.specs.Places.{Silent, Turns, Answers};
 ghost use Rattle.exchange.specs.Counts.{countOf, inTime, Under};
-ghost use Rattle.exchange.specs.Guarded.{guarded};
+ghost use Rattle.exchange.specs.Guarded.{over, guarded};
 
 pub mod checks;
 pub mod error;
@@ -48,6 +47,7 @@ fn waits(outcome: Outcome) -> bool
     }
 }
 
+// The time at which an outcome of an event at this time finishes.
 fn finish(asked: Asked, outcome: Outcome, time: u64) -> u64
     ensures { λ r. ⌜ ((replies : List ℕ) → r ≡ rules.finish (askedOf asked) (outcomeOf replies outcome) time) ⌝ }
 {
@@ -128,6 +128,7 @@ struct Count {
     early: usize,
 }
 
+// Whether a time is up to T.
 fn in_time(timeout: RequestTimeout, time: u64) -> bool
     ensures { λ r. ⌜ r ≡ inTime (limitOf timeout) time ⌝ }
 {
@@ -196,7 +197,7 @@ fn settle(
     replies: &[u8],
 ) -> Answer
     requires { ⌜ withinLimits (now events) (now replies) ≡ Bool.true ⌝ }
-    ensures { λ r. ⌜ Answers (now (replies .entry)) r (rules.exchange strict (askedOf asked) (limitOf timeout) (map (eventOf (now (replies .entry))) (entries (now (events .entry))))) ⌝ }
+    ensures { λ r. ⌜ Answers (now (replies .entry)) r (over strict (askedOf asked) (limitOf timeout) (now (events .entry)) (now (replies .entry))) ⌝ }
 {
     let n = events.len() / 10;
     let sub = asked.sub;

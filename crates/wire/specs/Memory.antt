@@ -1,6 +1,6 @@
 -- A number in an `alfid` form: its bytes, high byte first, or refusal 6 or 7.
 use Prim.Native.Nat.{ℕ, _-_}
-use mathlib.Core.List.{List, _++_}
+use mathlib.Core.List.{_++_}
 use lib.ListN.{replicate}
 use Rattle.rules.specs.Bytes.{bytesOf}
 use Rattle.rules.specs.Calls.{alfid}

@@ -7,6 +7,7 @@ use Rattle.exchange.specs.Meaning.{askedOf, verdictOf}
 use Rattle.exchange.proofs.checks.look.Statement.{statement}
 use Rattle.exchange.proofs.checks.look.Tie as tie
 
+-- The reply that is judged, from where its bytes are taken.
 reply : (c : tie.After-part) → Read (c .before .before .args .strict) (askedOf (c .before .before .args .asked)) (c .before .before .args .hush) (c .before .before .args .replies .now) (c .before .before .args .place) (c .part .result .now)
 reply c = record { here = c .part .ensures }
 
