@@ -1,2 +1,4 @@
 // The log of document 01, "The log and `udslog`".
+pub mod header;
+pub mod layout;
 pub mod text;

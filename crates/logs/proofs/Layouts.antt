@@ -1,0 +1,55 @@
+-- Laws of the layout's loops: one test more, and one event more.
+use Prim.Native.Nat.{ℕ, _+_, _-_, _*_, _≤_, _<_, suc}
+use native.Mathlib.Numerals.{add-one}
+use native.Mathlib.Omega.{arith}
+use mathlib.Core.Bool.{Bool, true, false, _&&_}
+use mathlib.Core.List.{List, [], _∷_}
+use mathlib.Core.Path.{_≡_, refl, ap}
+use lib.Dec.{leb, eqb}
+use lib.ListN.{length, getD, drop, drop-of-length-le}
+use lib.Seq.{drop-cons}
+use Rattle.rules.specs.Bytes.{u16At, every}
+use Rattle.rules.specs.Events.{entryAt, entriesFrom, entries}
+use Rattle.rules.specs.Logs.{Header, Uses, headerOf, usesOf, all, fieldsOk, areasOk, eventOk, eventBytes, layoutOk, dataOf, flag, some?}
+use Rattle.logs.specs.Layout.{entry, dataBytes}
+
+pub all-turn : (l : List Bool) (i : ℕ) (b : Bool) → i < length l → getD l i false ≡ b → all (drop i l) ≡ (b && all (drop (i + 1) l))
+all-turn l i b h e = rw (drop-cons l i false h, add-one, e)
+
+pub all-end : (l : List Bool) (i : ℕ) → length l ≤ i → all (drop i l) ≡ true
+all-end l i h = rw (drop-of-length-le l h)
+
+pub event-turn : (bs : List ℕ) (i n : ℕ) (b : Bool) → i < n → eventOk (entryAt bs i) ≡ b → every eventOk (entriesFrom bs (n - i) i) ≡ (b && every eventOk (entriesFrom bs (n - (i + 1)) (i + 1)))
+unfolding entriesFrom
+event-turn bs i n b h e =
+    let more : n - i ≡ suc (n - (i + 1)) = omega arith in
+    rw (more, e, add-one)
+
+pub events-end : (bs : List ℕ) (i n : ℕ) → n ≤ i → every eventOk (entriesFrom bs (n - i) i) ≡ true
+unfolding entriesFrom
+events-end bs i n h =
+    let done : n - i ≡ 0 = omega arith in
+    rw done
+
+-- An event is sound by three of its fields.
+pub event-at : (bs : List ℕ) (i : ℕ) {k o s : ℕ} → k ≡ u16At bs (i * 10 + 4) → o ≡ u16At bs (i * 10 + 6) → s ≡ u16At bs (i * 10 + 8) → eventOk (entryAt bs i) ≡ eventOk (entry 0 k o s)
+event-at bs i ek eo es = rw (ek, eo, es)
+
+-- The whole decision, from what each part of it told.
+abbrev sound : List ℕ → Header → Bool
+sound l h =
+    all
+    (leb 36 (length l) ∷
+    eqb (h .version) 1 ∷
+    leb (h .call) 14 ∷
+    fieldsOk h (usesOf (h .call)) ∷
+    areasOk h (length l) ∷
+    every eventOk (entries (eventBytes h l)) ∷ [])
+
+pub decided : (l bs : List ℕ) (h : Header) (u : Uses) {p q r : Bool} → h ≡ headerOf l → u ≡ usesOf (h .call) → p ≡ fieldsOk h u → q ≡ areasOk h (length l) → bs ≡ eventBytes h l → r ≡ every eventOk (entries bs) →
+    all (leb 36 (length l) ∷ eqb (h .version) 1 ∷ leb (h .call) 14 ∷ p ∷ q ∷ r ∷ []) ≡ layoutOk l
+unfolding layoutOk
+decided l bs h u eh eu ep eq eb er = rw (ep, eq, er, eb, eu) (ap (sound l) eh)
+
+pub data-bytes : (h : Header) (l : List ℕ) → dataOf h l ≡ some? (eqb (flag 32 h) 1) (dataBytes h l)
+data-bytes h l = refl

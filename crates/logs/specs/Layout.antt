@@ -1,0 +1,70 @@
+-- The code's structs, as `rules` has them.
+use Prim.Native.Nat.{ℕ, _+_, _-_}
+use mathlib.Core.List.{List}
+use Rattle.rules.specs.Events.{Entry}
+use Rattle.rules.specs.Logs as Logs
+use Rattle.logs.specs.declared.header.Header.{Header}
+use Rattle.logs.specs.declared.layout.Uses.{Uses}
+
+abbrev pub said : Header → Logs.Header
+said h = record {
+  version = h .version;
+  call = h .call;
+  flags = h .flags;
+  value = h .value;
+  sub = h .sub;
+  addressLength = h .«address_length»;
+  sizeLength = h .«size_length»;
+  unused = h .unused;
+  arguments = h .arguments;
+  argumentsAt = h .«arguments_at»;
+  events = h .events;
+  eventsAt = h .«events_at»;
+  replies = h .replies;
+  repliesAt = h .«replies_at»;
+  total = h .total;
+  p2 = h .p2;
+  star = h .star;
+  limit = h .limit;
+}
+
+abbrev pub meant : Uses → Logs.Uses
+meant u = record {
+  value = u .value;
+  sub = u .sub;
+  lengths = u .lengths;
+  named = u .named;
+  may = u .may;
+  must = u .must;
+}
+
+-- A header of which the places matter alone.
+abbrev pub placed : ℕ → ℕ → ℕ → ℕ → ℕ → ℕ → ℕ → Logs.Header
+placed arguments argumentsAt events eventsAt replies repliesAt total = record {
+  version = 0;
+  call = 0;
+  flags = 0;
+  value = 0;
+  sub = 0;
+  addressLength = 0;
+  sizeLength = 0;
+  unused = 0;
+  arguments = arguments;
+  argumentsAt = argumentsAt;
+  events = events;
+  eventsAt = eventsAt;
+  replies = replies;
+  repliesAt = repliesAt;
+  total = total;
+  p2 = 0;
+  star = 0;
+  limit = 0;
+}
+
+abbrev pub entry : ℕ → ℕ → ℕ → ℕ → Entry
+entry time kind offset size = record { time = time; kind = kind; offset = offset; size = size }
+
+-- The argument bytes behind address and size, whatever flag 32 says.
+abbrev pub dataBytes : Logs.Header → List ℕ → List ℕ
+dataBytes h l =
+    Logs.area l (36 + h .addressLength + h .sizeLength) (h .arguments - (h .addressLength + h .sizeLength))
