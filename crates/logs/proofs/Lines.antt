@@ -5,7 +5,7 @@ use mathlib.Core.List.{List, []}
 use mathlib.Core.Path.{_≡_, refl}
 use lib.ListN.{length}
 use Rattle.rules.specs.Answers.{Answer}
-use Rattle.rules.specs.Lines.{ascii, word, detail, decimal, decimalTo, line, badlog}
+use Rattle.rules.specs.Lines.{ascii, word, detail, decimalTo, line, badlog}
 use Rattle.logs.specs.Text.{text, shown}
 use Rattle.logs.proofs.Numerals.{digits, text-length}
 

@@ -1,6 +1,7 @@
 -- The code's structs, as `rules` has them.
 use Prim.Native.Nat.{ℕ, _+_, _-_}
 use mathlib.Core.List.{List}
+use lib.ListN.{drop}
 use Rattle.rules.specs.Events.{Entry}
 use Rattle.rules.specs.Logs as Logs
 use Rattle.logs.specs.declared.header.Header.{Header}
@@ -28,15 +29,12 @@ said h = record {
   limit = h .limit;
 }
 
+-- The header at a place of a log.
+abbrev pub headerAt : List ℕ → ℕ → Logs.Header
+headerAt l at = Logs.headerOf (drop at l)
+
 abbrev pub meant : Uses → Logs.Uses
-meant u = record {
-  value = u .value;
-  sub = u .sub;
-  lengths = u .lengths;
-  named = u .named;
-  may = u .may;
-  must = u .must;
-}
+meant u = Logs.uses (u .0) (u .1) (u .2) (u .3) (u .4) (u .5)
 
 -- A header of which the places matter alone.
 abbrev pub placed : ℕ → ℕ → ℕ → ℕ → ℕ → ℕ → ℕ → Logs.Header

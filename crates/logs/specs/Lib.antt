@@ -1,3 +1,4 @@
 -- What the contracts of `logs` cite besides `rules`.
 pub mod Text
 pub mod Layout
+pub mod Reading

@@ -1,10 +1,10 @@
 // "Header, 36 bytes", big-endian: its fields, read from a log at a place.
 ghost use mathlib.Core.Path.{_≡_};
 ghost use Prim.Native.Nat.{_+_, _<_, _^_};
-ghost use lib.ListN.{getD, drop};
+ghost use lib.ListN.{getD};
 ghost use Rattle.rules.specs.Bytes.{u16At, u32At};
 ghost use Rattle.rules.specs.Logs.{headerOf, area};
-ghost use Rattle.logs.specs.Layout.{said};
+ghost use Rattle.logs.specs.Layout.{said, headerAt};
 
 // Of an area: how many (bytes or events), and where it begins.
 pub struct Header {
@@ -91,7 +91,7 @@ pub fn area<'a>(log: &'a [u8], at: usize, n: usize) -> &'a [u8]
 
 // The header at a place of a log.
 pub(crate) fn header_at(log: &[u8], at: usize) -> Header
-    ensures { λ r. ⌜ said r ≡ headerOf (drop at (now (log .entry))) ⌝ }
+    ensures { λ r. ⌜ said r ≡ headerAt (now (log .entry)) at ⌝ }
 {
     header_in(area(log, at, log.len()))
 }

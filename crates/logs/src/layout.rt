@@ -1,8 +1,8 @@
 // The layout of a log: a sound one, or "any other layout".
 use crate::header::Header;
 use crate::header::area;
-use crate::header::header_at;
 use crate::header::two;
+use crate::reader::read_header;
 ghost use mathlib.Core.Path.{_≡_};
 ghost use mathlib.Core.Bool.{_&&_};
 ghost use Prim.Native.Nat.{_-_};
@@ -13,151 +13,35 @@ ghost use Rattle.rules.specs.Logs.{usesOf, fieldsOk, areasOk, eventOk, layoutOk
 ghost use Rattle.rules.specs.Calls.{given};
 ghost use Rattle.logs.specs.Layout.{said, meant, placed, entry, dataBytes};
 
-// What a call uses, as `table` of `rules` says it.
-struct Uses {
-    value: u16,
-    sub: u8,
-    lengths: u8,
-    named: u8,
-    may: u8,
-    must: u8,
-}
+// What a call uses, a row of `table` of `rules`: the largest value, sub and lengths, whether flag 16 is its own, and whether data may and must be present.
+struct Uses(u16, u8, u8, u8, u8, u8);
 
 fn uses_of(call: u8) -> Uses
     ensures { λ r. ⌜ meant r ≡ usesOf call ⌝ }
 {
     let table = [
-        Uses {
-            value: 255,
-            sub: 0,
-            lengths: 0,
-            named: 1,
-            may: 1,
-            must: 0,
-        },
-        Uses {
-            value: 0,
-            sub: 255,
-            lengths: 0,
-            named: 0,
-            may: 0,
-            must: 0,
-        },
-        Uses {
-            value: 0,
-            sub: 255,
-            lengths: 0,
-            named: 0,
-            may: 0,
-            must: 0,
-        },
-        Uses {
-            value: 0,
-            sub: 255,
-            lengths: 0,
-            named: 0,
-            may: 1,
-            must: 0,
-        },
-        Uses {
-            value: 0,
-            sub: 0,
-            lengths: 0,
-            named: 0,
-            may: 0,
-            must: 0,
-        },
-        Uses {
-            value: 0,
-            sub: 0,
-            lengths: 255,
-            named: 0,
-            may: 0,
-            must: 0,
-        },
-        Uses {
-            value: 0,
-            sub: 0,
-            lengths: 255,
-            named: 0,
-            may: 1,
-            must: 1,
-        },
-        Uses {
-            value: 65535,
-            sub: 0,
-            lengths: 0,
-            named: 0,
-            may: 0,
-            must: 0,
-        },
-        Uses {
-            value: 65535,
-            sub: 0,
-            lengths: 0,
-            named: 0,
-            may: 1,
-            must: 1,
-        },
-        Uses {
-            value: 255,
-            sub: 0,
-            lengths: 0,
-            named: 0,
-            may: 0,
-            must: 0,
-        },
-        Uses {
-            value: 65535,
-            sub: 255,
-            lengths: 0,
-            named: 0,
-            may: 1,
-            must: 0,
-        },
-        Uses {
-            value: 65535,
-            sub: 0,
-            lengths: 255,
-            named: 0,
-            may: 0,
-            must: 0,
-        },
-        Uses {
-            value: 65535,
-            sub: 0,
-            lengths: 255,
-            named: 0,
-            may: 0,
-            must: 0,
-        },
-        Uses {
-            value: 255,
-            sub: 0,
-            lengths: 0,
-            named: 0,
-            may: 1,
-            must: 0,
-        },
-        Uses {
-            value: 0,
-            sub: 0,
-            lengths: 0,
-            named: 0,
-            may: 1,
-            must: 0,
-        },
+        Uses(255, 0, 0, 1, 1, 0),
+        Uses(0, 255, 0, 0, 0, 0),
+        Uses(0, 255, 0, 0, 0, 0),
+        Uses(0, 255, 0, 0, 1, 0),
+        Uses(0, 0, 0, 0, 0, 0),
+        Uses(0, 0, 255, 0, 0, 0),
+        Uses(0, 0, 255, 0, 1, 1),
+        Uses(65535, 0, 0, 0, 0, 0),
+        Uses(65535, 0, 0, 0, 1, 1),
+        Uses(255, 0, 0, 0, 0, 0),
+        Uses(65535, 255, 0, 0, 1, 0),
+        Uses(65535, 0, 255, 0, 0, 0),
+        Uses(65535, 0, 255, 0, 0, 0),
+        Uses(255, 0, 0, 0, 1, 0),
+        Uses(0, 0, 0, 0, 1, 0),
     ];
-    let none = Uses {
-        value: 0,
-        sub: 0,
-        lengths: 0,
-        named: 0,
-        may: 0,
-        must: 0,
-    };
     let i = call as usize;
-    if i < 15 { table[i] } else { none }
+    if i < 15 {
+        table[i]
+    } else {
+        Uses(0, 0, 0, 0, 0, 0)
+    }
 }
 
 fn all(tests: &[bool]) -> bool
@@ -177,24 +61,26 @@ fn all(tests: &[bool]) -> bool
 fn fields_ok(h: Header, u: Uses) -> bool
     ensures { λ r. ⌜ r ≡ fieldsOk (said h) (meant u) ⌝ }
 {
-    all(
-        &[
-            h.flags / 32 <= u.may,
-            u.must <= h.flags / 32,
-            h.flags / 16 % 2 <= u.named,
-            h.value <= u.value,
-            h.sub as u16 <= u.sub as u16 + (h.flags / 16 % 2) as u16 * 255,
-            h.address_length <= u.lengths,
-            h.size_length <= u.lengths,
-            h.unused == 0,
-            h.limit <= (h.flags / 8 % 2) as u32 * 4294967295,
-            h.address_length as u32 + h.size_length as u32 <= h.arguments as u32,
-            h.arguments as u32
-                <= h.address_length as u32
-                    + h.size_length as u32
-                    + (h.flags / 32 % 2) as u32 * 65535,
-        ],
-    )
+    let Uses(value, sub, lengths, named, may, must) = u;
+    let flags = h.flags;
+    let address = h.address_length;
+    let size = h.size_length;
+    let both = address as u32 + size as u32;
+    let arguments = h.arguments as u32;
+    let tests = [
+        flags / 32 <= may,
+        must <= flags / 32,
+        flags / 16 % 2 <= named,
+        h.value <= value,
+        h.sub as u16 <= sub as u16 + (flags / 16 % 2) as u16 * 255,
+        address <= lengths,
+        size <= lengths,
+        h.unused == 0,
+        h.limit <= (flags / 8 % 2) as u32 * 4294967295,
+        both <= arguments,
+        arguments <= both + (flags / 32 % 2) as u32 * 65535,
+    ];
+    all(&tests)
 }
 
 // "The areas follow in that order, no gaps", in a log of n bytes.
@@ -210,15 +96,14 @@ fn areas_fit(
 ) -> bool
     ensures { λ r. ⌜ r ≡ areasOk (placed arguments «arguments_at» events «events_at» replies «replies_at» total) n ⌝ }
 {
-    all(
-        &[
-            arguments_at == 36,
-            events_at as u32 == 36 + arguments as u32,
-            replies_at as u32 == events_at as u32 + events as u32 * 10,
-            total as u32 == replies_at as u32 + replies as u32,
-            total as usize == n,
-        ],
-    )
+    let tests = [
+        arguments_at == 36,
+        events_at as u32 == 36 + arguments as u32,
+        replies_at as u32 == events_at as u32 + events as u32 * 10,
+        total as u32 == replies_at as u32 + replies as u32,
+        total as usize == n,
+    ];
+    all(&tests)
 }
 
 fn areas_ok(h: Header, n: usize) -> bool
@@ -325,15 +210,14 @@ pub fn data_of<'a>(log: &'a [u8], h: Header) -> &'a [u8]
 pub fn layout_ok(log: &[u8]) -> bool
     ensures { λ r. ⌜ r ≡ layoutOk (now (log .entry)) ⌝ }
 {
-    let h = header_at(log, 0);
-    all(
-        &[
-            36 <= log.len(),
-            h.version == 1,
-            h.call <= 14,
-            fields_ok(h, uses_of(h.call)),
-            areas_ok(h, log.len()),
-            events_ok(events_of(log, h)),
-        ],
-    )
+    let h = read_header(log);
+    let tests = [
+        36 <= log.len(),
+        h.version == 1,
+        h.call <= 14,
+        fields_ok(h, uses_of(h.call)),
+        areas_ok(h, log.len()),
+        events_ok(events_of(log, h)),
+    ];
+    all(&tests)
 }

@@ -6,8 +6,8 @@ use borrow.Author.Needs.{needs}
 use Rattle.logs.proofs.layout.layout_ok.Statement.{statement}
 use Rattle.logs.proofs.layout.layout_ok.Tie as tie
 
-header-at-requires : tie.Need-header-at-requires
-header-at-requires c κs = search needs
+read-header-requires : tie.Need-read-header-requires
+read-header-requires c κs = search needs
 
 uses-of-requires : tie.Need-uses-of-requires
 uses-of-requires c κs = search needs
@@ -38,8 +38,8 @@ returns c =
     let h = u .before .before .before in
     let l = h .before .before .args .log .now in
     c .all .ensures ∙
-    decided l (e .before .events-of .result .now) (said (h .header-at .result)) (meant (u .uses-of .result))
-    (h .header-at .ensures)
+    decided l (e .before .events-of .result .now) (said (h .read-header .result)) (meant (u .uses-of .result))
+    (h .read-header .ensures)
     (u .uses-of .ensures)
     (a .before .fields-ok .ensures)
     (a .areas-ok .ensures)
@@ -50,7 +50,7 @@ pub layout-ok-spec : {M : Type 1} → statement M
 layout-ok-spec =
     tie.close
     (tie.spec
-    header-at-requires
+    read-header-requires
     uses-of-requires
     fields-ok-requires
     areas-ok-requires

@@ -10,7 +10,7 @@ use Rattle.logs.proofs.layout.uses_of.Statement.{statement}
 use Rattle.logs.proofs.layout.uses_of.Tie as tie
 
 abbrev row : Logs.Uses → Uses
-row u = record { value = u .value; sub = u .sub; lengths = u .lengths; named = u .named; may = u .may; must = u .must }
+row u = record { 0 = u .value; 1 = u .sub; 2 = u .lengths; 3 = u .named; 4 = u .may; 5 = u .must }
 
 mul-result : tie.Need-mul-result
 mul-result c = search needs

@@ -4,7 +4,6 @@ use native.Mathlib.Omega.{arith}
 use mathlib.Core.Path.{_≡_, refl, _∙_}
 use lib.ListN.{length, take}
 use lib.Seq.{take-all}
-use borrow.Author.Needs.{needs}
 use Rattle.rules.specs.Lines.{hex}
 use Rattle.logs.specs.Text.{Put}
 use Rattle.logs.proofs.Writing.{then, none}
