@@ -16,14 +16,10 @@ use Rattle.rules.specs.Conversations.{Every}
 use Rattle.rules.specs.Counts.{isPending, isNotice, passes, noticesIn, After, UpToSettling, Counted, Counts}
 use Rattle.rules.specs.Events.{Event, reply, idle, ended, failed, timeOf, upTo}
 use Rattle.rules.specs.Exchange.{Asked, Step, pending, settles, wrong, refusing, coded, granting, look, Settled, silence, act, turn, settle, exchange}
+use Rattle.rules.proofs.Judging.{judge-ind}
 
 judge-settles : (cs : List (Check Fault)) (o : Outcome) → isPending (judge wrong cs (settles o)) ≡ false
-judge-settles [] o = refl
-judge-settles (c ∷ cs) o = go (c .test) (judge-settles cs o)
-  where
-    go : (b : Bool) → isPending (judge wrong cs (settles o)) ≡ false → isPending (cond b (judge wrong cs (settles o)) (wrong (c .fault))) ≡ false
-    go true e = e
-    go false e = refl
+judge-settles cs o = judge-ind (λ s. isPending s ≡ false) wrong cs (settles o) (λ f. refl) (λ p. refl)
 
 -- Whether a reply is a notice does not hang on suppression.
 hush-free : (m : Bool) (a : Asked) (hush : Bool) (p : Part) → isPending (look m a hush p) ≡ isPending (look m a false p)

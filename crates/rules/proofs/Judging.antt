@@ -29,6 +29,15 @@ judge-inv wrong (c ∷ cs) n e =
       | inr h ↦ absurd (n (c .fault) (h .1))
     ]
 
+-- What holds of every fault, and of what all checks lead to, holds of the judgement.
+pub judge-ind : {A B : Type 0} (P : B → Type 0) (wrong : A → B) (cs : List (Check A)) (x : B) → ((f : A) → P (wrong f)) → (Pass cs → P x) → P (judge wrong cs x)
+judge-ind P wrong [] x f g = g tt
+judge-ind P wrong (c ∷ cs) x f g = go (c .test) refl (λ e. judge-ind P wrong cs x f (λ p. g (e, p)))
+  where
+    go : (b : Bool) → c .test ≡ b → (c .test ≡ true → P (judge wrong cs x)) → P (cond b (judge wrong cs x) (wrong (c .fault)))
+    go true e h = h e
+    go false e h = f (c .fault)
+
 pub pass-append : {A : Type 0} (cs ds : List (Check A)) → Pass (cs ++ ds) → Pass cs × Pass ds
 pass-append [] ds p = (tt, p)
 pass-append (c ∷ cs) ds p = let r = pass-append cs ds (p .1) in ((p .0, r .0), r .1)

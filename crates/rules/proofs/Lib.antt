@@ -11,3 +11,4 @@ pub mod Layouts
 pub mod Unique
 pub mod Counts
 pub mod Unrefused
+pub mod Inside

@@ -12,18 +12,14 @@ use Rattle.rules.specs.Checks.{Check, unless, judge}
 use Rattle.rules.specs.Demand3.{Refused}
 use Rattle.rules.specs.Events.{Event, reply, idle, ended, failed, timeOf, upTo}
 use Rattle.rules.specs.Exchange.{Asked, Step, pending, settles, wrong, refusing, coded, granting, byFirst, look, Settled, silence, act, turn, settle, counted, exchange}
+use Rattle.rules.proofs.Judging.{judge-ind}
 
 abbrev Unrefused : Step → Type 0
 Unrefused pending = Unit {0}
 Unrefused (settles o) = ¬ Refused o
 
 judged : (cs : List (Check Fault)) (s : Step) → Unrefused s → Unrefused (judge wrong cs s)
-judged [] s h = h
-judged (c ∷ cs) s h = go (c .test) (judged cs s h)
-  where
-    go : (b : Bool) → Unrefused (judge wrong cs s) → Unrefused (cond b (judge wrong cs s) (wrong (c .fault)))
-    go true k = k
-    go false k = λ x. x
+judged cs s h = judge-ind Unrefused wrong cs s (λ f x. x) (λ p. h)
 
 looked : (m : Bool) (a : Asked) (hush : Bool) (p : Part) → Unrefused (look m a hush p)
 unfolding look
