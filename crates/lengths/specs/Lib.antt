@@ -1,0 +1,2 @@
+-- What the contracts of `lengths` cite beside `rules`.
+pub mod Numbers
