@@ -1,0 +1,71 @@
+-- What the contracts say beside `rules`: how code's values stand for the definitions', where places lie, and what is answered where a definition's value does not fit the code's numbers.
+use Prim.Native.Nat.{ℕ, _+_, _^_, _≤_}
+use mathlib.Core.Bool.{Bool, cond}
+use mathlib.Core.Path.{_≡_}
+use mathlib.Core.List.{List}
+use lib.Dec.{leb, ltb}
+use lib.ListN.{length, take}
+use Rattle.rules.specs.After.{checked, first, handed}
+use Rattle.rules.specs.Answers as rules
+use Rattle.rules.specs.Answers.{Part, part, nowhere, behind, positive, ifPositive}
+use Rattle.rules.specs.Calls as calls
+use Rattle.rules.specs.Settings as settings
+use Rattle.exchange.specs.declared.types.Place.{Place}
+use Rattle.exchange.specs.declared.types.Outcome.{Outcome}
+use Rattle.exchange.specs.declared.types.Outcome.the-variants as outcome
+use Rattle.exchange.specs.Meaning.{partOf, outcomeOf}
+use Rattle.requests.specs.declared.calls.Call.{Call}
+use Rattle.requests.specs.Meaning.{callOf}
+use Rattle.checks.specs.declared.types.Timing.{Timing}
+use Rattle.checks.specs.declared.handed.Span.{Span}
+
+-- The call that is checked. Of an address or a size the first 15 bytes count: no request has more (refusals 2 and 3), and "2 + both lengths" is then a number of 64 bits.
+abbrev pub asked : Call → List ℕ → List ℕ → Bool → List ℕ → calls.Call
+asked c a s present d = callOf c (take 15 a) (take 15 s) present d
+
+-- A part as a place can name it: what would begin past the end of the lent bytes is nowhere.
+abbrev pub lent : List ℕ → Part → Part
+lent replies p = cond (leb (p .at) (length replies)) p nowhere
+
+abbrev pub Inside : List ℕ → Place → Type 0
+Inside replies p = p .at + p .len ≤ length replies
+
+-- The place that an outcome names; (0, 0) where it names none.
+abbrev pub placeOf : Outcome → Place
+placeOf (outcome.PositiveResponse p) = p
+placeOf outcome.Suppressed = record { at = 0; len = 0 }
+placeOf (outcome.NegativeResponse c) = record { at = 0; len = 0 }
+placeOf outcome.Timeout = record { at = 0; len = 0 }
+placeOf outcome.Disconnected = record { at = 0; len = 0 }
+placeOf (outcome.Transport n) = record { at = 0; len = 0 }
+placeOf (outcome.ProtocolDeviation d) = record { at = 0; len = 0 }
+placeOf outcome.InvalidResponseLength = record { at = 0; len = 0 }
+placeOf outcome.BlockLengthOverflow = record { at = 0; len = 0 }
+placeOf (outcome.Refused n) = record { at = 0; len = 0 }
+
+abbrev pub answered : List ℕ → rules.Outcome → rules.Outcome
+answered replies o = ifPositive o (λ p. positive (lent replies p)) o
+
+-- What `check` answers, whatever the call's data is.
+pub record Checked (strict : Bool) (call : Call) (a s : List ℕ) (present : Bool) (replies : List ℕ) (place : Place) (r : Outcome) : Type 0 where
+  pub means : (d : List ℕ) → outcomeOf replies r ≡ answered replies (checked strict (asked call a s present d) (partOf replies place))
+  pub inside : Inside replies (placeOf r)
+
+-- The place of the data that a call hands out of the reply at a place, whatever its arguments are.
+pub record Handed (call : Call) (replies : List ℕ) (place r : Place) : Type 0 where
+  pub means : (a s : List ℕ) (present : Bool) (d : List ℕ) → partOf replies r ≡ lent replies (handed (callOf call a s present d) (partOf replies place))
+  pub inside : Inside replies r
+
+-- The data that a call hands out of a reply, wherever that stands.
+pub record HandsOut (call : Call) (reply : List ℕ) (r : Span) : Type 0 where
+  pub means : (a s : List ℕ) (present : Bool) (d : List ℕ) (at : ℕ) → handed (callOf call a s present d) (part at reply) ≡ first (r .count) (behind (r .skip) (part at reply))
+
+-- A number of 64 bits; 0 for one above.
+abbrev pub fitting : ℕ → ℕ
+fitting v = cond (ltb v (2 ^ 64)) v 0
+
+abbrev pub timed : Timing → settings.Timing
+timed t = record { p2 = t .p2; star = t .star }
+
+abbrev pub given : ℕ → ℕ → settings.Timing
+given p2 star = record { p2 = p2; star = star }

@@ -1,0 +1,307 @@
+// The checks of each service, strict and lenient: document 01's "Checks after the positive, in order". `reply` is the whole reply.
+use exchange::error::Fault;
+use exchange::error::Maximum;
+use exchange::error::ProtocolDeviation;
+use exchange::error::Verdict;
+use lengths::Number;
+use lengths::block_length;
+use lengths::record_length_is;
+use requests::calls::Call;
+use wire::byte_at;
+use wire::part;
+use wire::u16_at;
+ghost use Prim.Native.Nat.{ℕ, _≤_, _<_, _^_};
+ghost use mathlib.Core.Bool.{_&&_};
+ghost use mathlib.Core.List.{List, [], _∷_};
+ghost use mathlib.Core.Option.{none, some};
+ghost use mathlib.Core.Path.{_≡_};
+ghost use lib.Dec.{leb, ltb, eqb};
+ghost use lib.ListN.{length, getD, drop};
+ghost use Rattle.rules.specs.After.{most, bounds, atLeast, strictly, lengthBytes, blockLength, loading, checks};
+ghost use Rattle.rules.specs.Answers.{lengthError, overflow};
+ghost use Rattle.rules.specs.Bytes.{value, u16At, same};
+ghost use Rattle.rules.specs.Calls.{given, readMemory, writeMemory, faultCount, routine};
+ghost use Rattle.rules.specs.Checks.{unless, inStrict};
+ghost use Rattle.exchange.specs.Meaning.{maximumOf, verdictOf, firstOf};
+ghost use Rattle.checks.specs.Answered.{asked};
+
+// A test that counts in strict mode only.
+fn in_strict(strict: bool, test: bool) -> bool
+    ensures { λ r. ⌜ r ≡ inStrict strict test ⌝ }
+{
+    if strict { test } else { true }
+}
+
+fn wide(b: u8) -> usize
+    ensures { λ r. ⌜ (r ≡ b) × (r < 256) ⌝ }
+{
+    b as usize
+}
+
+// What is left behind the first `from` bytes.
+fn rest<'a>(bytes: &'a [u8], from: usize) -> &'a [u8]
+    ensures { λ r. ⌜ now r ≡ drop from (now (bytes .entry)) ⌝ }
+{
+    part(bytes, from, bytes.len())
+}
+
+fn same(a: &[u8], b: &[u8]) -> bool
+    ensures { λ r. ⌜ r ≡ same (now (a .entry)) (now (b .entry)) ⌝ }
+{
+    if a.len() != b.len() {
+        return false;
+    }
+    let mut i = 0;
+    while i < a.len() {
+        if a[i] != b[i] {
+            return false;
+        }
+        i += 1;
+    }
+    true
+}
+
+fn within(len: usize, minimum: usize, maximum: Maximum) -> bool
+    ensures { λ r. ⌜ r ≡ (leb minimum len && most (maximumOf maximum) len) ⌝ }
+{
+    if len < minimum {
+        return false;
+    }
+    match maximum {
+        Maximum::None => true,
+        Maximum::At(n) => len <= n,
+    }
+}
+
+// "A length error is deviation 8 (minimum, maximum) in strict, the plain length outcome in lenient."
+fn invalid_response_length(strict: bool, minimum: usize, maximum: Maximum) -> Verdict
+    ensures { λ r. ⌜ verdictOf r ≡ some (lengthError strict minimum (maximumOf maximum)) ⌝ }
+{
+    if strict {
+        Verdict::Failed(Fault::ProtocolDeviation(ProtocolDeviation::InvalidResponseLength(
+            minimum,
+            maximum,
+        )))
+    } else {
+        Verdict::Failed(Fault::InvalidResponseLength)
+    }
+}
+
+// "Strict bounds of total length"
+fn validate_response_length(strict: bool, reply: &[u8], minimum: usize, maximum: Maximum) -> Verdict
+    ensures { λ r. ⌜ verdictOf r ≡ firstOf (bounds strict minimum (maximumOf maximum) (now (reply .entry)) ∷ []) ⌝ }
+{
+    if in_strict(strict, within(reply.len(), minimum, maximum)) {
+        Verdict::Passed
+    } else {
+        invalid_response_length(strict, minimum, maximum)
+    }
+}
+
+// "Call 5 strict: record length other than M, deviation 15; then empty, (2, none)."
+fn read_memory_by_address(strict: bool, size: &[u8], reply: &[u8]) -> Verdict
+    ensures { λ r. ⌜ verdictOf r ≡ firstOf (checks strict (readMemory (given []) (given (now (size .entry)))) (now (reply .entry))) ⌝ }
+{
+    if !in_strict(strict, record_length_is(size, rest(reply, 1).len())) {
+        return Verdict::Failed(Fault::ProtocolDeviation(
+            ProtocolDeviation::InvalidMemoryRecordLength,
+        ));
+    }
+    if !in_strict(strict, reply.len() >= 2) {
+        return invalid_response_length(strict, 2, Maximum::None);
+    }
+    Verdict::Passed
+}
+
+// "6 (2 + both lengths, same)" .. "6 deviations 12, 13, 14 in that order"
+fn write_memory_by_address(strict: bool, address: &[u8], size: &[u8], reply: &[u8]) -> Verdict
+    requires { ⌜ (length (now address) ≤ 15) × (length (now size) ≤ 15) ⌝ }
+    ensures { λ r. ⌜ verdictOf r ≡ firstOf (checks strict (writeMemory (given (now (address .entry))) (given (now (size .entry))) []) (now (reply .entry))) ⌝ }
+{
+    let total = 2 + address.len() + size.len();
+    if !in_strict(strict, within(reply.len(), total, Maximum::At(total))) {
+        return invalid_response_length(strict, total, Maximum::At(total));
+    }
+    if !in_strict(
+        strict,
+        wide(byte_at(reply, 1)) == size.len() * 16 + address.len(),
+    ) {
+        return Verdict::Failed(Fault::ProtocolDeviation(
+            ProtocolDeviation::InvalidAddressAndLengthFormatIdentifier,
+        ));
+    }
+    if !in_strict(strict, same(part(reply, 2, address.len()), address)) {
+        return Verdict::Failed(Fault::ProtocolDeviation(ProtocolDeviation::InvalidMemoryAddress));
+    }
+    if !in_strict(strict, same(rest(rest(reply, 2), address.len()), size)) {
+        return Verdict::Failed(Fault::ProtocolDeviation(ProtocolDeviation::InvalidMemorySize));
+    }
+    Verdict::Passed
+}
+
+// "7 and 8 need two bytes after the SID, else (3, none)" .. "7 and 8 deviation 5"
+fn identified(strict: bool, minimum: usize, maximum: Maximum, id: u16, reply: &[u8]) -> Verdict
+    ensures { λ r. ⌜ verdictOf r ≡ firstOf (bounds strict minimum (maximumOf maximum) (now (reply .entry)) ∷ atLeast strict 3 (now (reply .entry)) ∷ strictly strict (eqb (u16At (now (reply .entry)) 1) id) 5 ∷ []) ⌝ }
+{
+    if !in_strict(strict, within(reply.len(), minimum, maximum)) {
+        return invalid_response_length(strict, minimum, maximum);
+    }
+    if reply.len() < 3 {
+        return invalid_response_length(strict, 3, Maximum::None);
+    }
+    if !in_strict(strict, u16_at(reply, 1) == id) {
+        return Verdict::Failed(Fault::ProtocolDeviation(ProtocolDeviation::InvalidDataIdentifier));
+    }
+    Verdict::Passed
+}
+
+// "9 four, strict exactly four, else (6, 6)"
+fn read_dtc_information(strict: bool, reply: &[u8]) -> Verdict
+    ensures { λ r. ⌜ verdictOf r ≡ firstOf (checks strict (faultCount 0) (now (reply .entry))) ⌝ }
+{
+    if reply.len() < 6 {
+        return invalid_response_length(strict, 6, Maximum::At(6));
+    }
+    if !in_strict(strict, reply.len() == 6) {
+        return invalid_response_length(strict, 6, Maximum::At(6));
+    }
+    Verdict::Passed
+}
+
+// "10 two after the sub-function, else (4, none)" .. "10 deviation 6"
+fn routine_control(strict: bool, id: u16, reply: &[u8]) -> Verdict
+    ensures { λ r. ⌜ verdictOf r ≡ firstOf (checks strict (routine 0 id none) (now (reply .entry))) ⌝ }
+{
+    if reply.len() < 4 {
+        return invalid_response_length(strict, 4, Maximum::None);
+    }
+    if !in_strict(strict, u16_at(reply, 2) == id) {
+        return Verdict::Failed(Fault::ProtocolDeviation(
+            ProtocolDeviation::InvalidRoutineIdentifier,
+        ));
+    }
+    Verdict::Passed
+}
+
+// "13 (3 or 2, none)" .. "13 one, else (2, none)" .. "13 deviation 7"
+fn transfer_data(strict: bool, minimum: usize, counter: u8, reply: &[u8]) -> Verdict
+    ensures { λ r. ⌜ verdictOf r ≡ firstOf (bounds strict minimum none (now (reply .entry)) ∷ atLeast strict 2 (now (reply .entry)) ∷ strictly strict (eqb (getD (now (reply .entry)) 1 0) counter) 7 ∷ []) ⌝ }
+{
+    if !in_strict(strict, within(reply.len(), minimum, Maximum::None)) {
+        return invalid_response_length(strict, minimum, Maximum::None);
+    }
+    if reply.len() < 2 {
+        return invalid_response_length(strict, 2, Maximum::None);
+    }
+    if !in_strict(strict, byte_at(reply, 1) == counter) {
+        return Verdict::Failed(Fault::ProtocolDeviation(
+            ProtocolDeviation::InvalidBlockSequenceCounter,
+        ));
+    }
+    Verdict::Passed
+}
+
+// "strict value under 3, deviation 11; value above 2^64 − 1, overflow"
+fn loaded(strict: bool, bytes: &[u8]) -> Verdict
+    ensures { λ r. ⌜ verdictOf r ≡ firstOf (strictly strict (leb 3 (value (now (bytes .entry)))) 11 ∷ unless (ltb (value (now (bytes .entry))) (2 ^ 64)) overflow ∷ []) ⌝ }
+{
+    match block_length(bytes) {
+        Number::Overflow => Verdict::Failed(Fault::BlockLengthOverflow),
+        Number::Value(v) => {
+            if in_strict(strict, v >= 3) {
+                Verdict::Passed
+            } else {
+                Verdict::Failed(Fault::ProtocolDeviation(
+                    ProtocolDeviation::InvalidMaxNumberOfBlockLength,
+                ))
+            }
+        }
+    }
+}
+
+// The number of bytes that spell the block length, n of document 01.
+pub fn length_bytes(reply: &[u8]) -> usize
+    ensures { λ r. ⌜ (r ≡ lengthBytes (now (reply .entry))) × (r < 16) ⌝ }
+{
+    wide(byte_at(reply, 1)) / 16
+}
+
+// "Calls 11 and 12: empty (2, none); strict low nibble not 0, deviation 10; strict n = 0, deviation 9; fewer than n bytes, or in strict more, (n + 2, n + 2)"
+fn request_download_upload(strict: bool, reply: &[u8]) -> Verdict
+    ensures { λ r. ⌜ verdictOf r ≡ firstOf (loading strict (now (reply .entry)) (lengthBytes (now (reply .entry))) (value (blockLength (now (reply .entry))))) ⌝ }
+{
+    if reply.len() < 2 {
+        return invalid_response_length(strict, 2, Maximum::None);
+    }
+    if !in_strict(strict, byte_at(reply, 1) % 16 == 0) {
+        return Verdict::Failed(Fault::ProtocolDeviation(
+            ProtocolDeviation::InvalidLengthFormatIdentifier,
+        ));
+    }
+    let n = length_bytes(reply);
+    if !in_strict(strict, n > 0) {
+        return Verdict::Failed(Fault::ProtocolDeviation(ProtocolDeviation::InvalidLengthFormat));
+    }
+    if reply.len() < n + 2 {
+        return invalid_response_length(strict, n + 2, Maximum::At(n + 2));
+    }
+    if !in_strict(strict, reply.len() <= n + 2) {
+        return invalid_response_length(strict, n + 2, Maximum::At(n + 2));
+    }
+    loaded(strict, part(reply, 2, n))
+}
+
+// The checks of a call; of an address or a size the first fifteen bytes count, and no request has more (refusals 2 and 3).
+pub fn verdict(
+    strict: bool,
+    call: Call,
+    address: &[u8],
+    size: &[u8],
+    present: bool,
+    reply: &[u8],
+) -> Verdict
+    ensures { λ r. ⌜ ((d : List ℕ) → verdictOf r ≡ firstOf (checks strict (asked call (now (address .entry)) (now (size .entry)) present d) (now (reply .entry)))) ⌝ }
+{
+    let address = part(address, 0, 15);
+    let size = part(size, 0, 15);
+    match call {
+        Call::Request(_, _) => Verdict::Passed,
+        Call::DiagnosticSessionControl(_) => validate_response_length(
+            strict,
+            reply,
+            6,
+            Maximum::At(6),
+        ),
+        Call::EcuReset(sub) => {
+            if sub % 128 == 4 {
+                validate_response_length(strict, reply, 3, Maximum::At(3))
+            } else {
+                validate_response_length(strict, reply, 2, Maximum::At(2))
+            }
+        }
+        Call::SecurityAccess(sub) => {
+            if sub % 2 == 1 {
+                validate_response_length(strict, reply, 3, Maximum::None)
+            } else {
+                validate_response_length(strict, reply, 2, Maximum::At(2))
+            }
+        }
+        Call::TesterPresent => validate_response_length(strict, reply, 2, Maximum::At(2)),
+        Call::ReadMemoryByAddress => read_memory_by_address(strict, size, reply),
+        Call::WriteMemoryByAddress => write_memory_by_address(strict, address, size, reply),
+        Call::ReadDataByIdentifier(id) => identified(strict, 4, Maximum::None, id, reply),
+        Call::WriteDataByIdentifier(id) => identified(strict, 3, Maximum::At(3), id, reply),
+        Call::ReadDTCInformation(_) => read_dtc_information(strict, reply),
+        Call::RoutineControl(_, id) => routine_control(strict, id, reply),
+        Call::RequestDownload(_, _) => request_download_upload(strict, reply),
+        Call::RequestUpload(_, _) => request_download_upload(strict, reply),
+        Call::TransferData(counter) => {
+            if present {
+                transfer_data(strict, 2, counter, reply)
+            } else {
+                transfer_data(strict, 3, counter, reply)
+            }
+        }
+        Call::RequestTransferExit => Verdict::Passed,
+    }
+}
