@@ -1,2 +1,4 @@
--- What a call of the code means in `rules`.
+-- What the contracts of `requests` cite beside `rules`.
 pub mod Meaning
+pub mod Parameters
+pub mod Requests
