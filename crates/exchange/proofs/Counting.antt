@@ -53,9 +53,14 @@ module _ (limit : Option ℕ) (t : ℕ) (ts : List ℕ) (k : Count) (counts : k 
 
 -- The answer of a settled exchange: as it is, or cut at T.
 module _ (l : List ℕ) (s : Settled) (es ns : List ℕ) (events notices : Count) where
-  pub under-all : (limit : Option ℕ) → events ≡ countOf limit es → notices ≡ countOf limit ns → inTime limit (s .time) ≡ true → InsideOutcome l (s .outcome) → Inside l (s .reply) → Answers l (record { outcome = s .outcome; time = s .time; events = events .all; notices = notices .all; reply = s .reply }) (under limit (settledOf l s es ns))
+  pub under-all : (limit : Option ℕ) → events ≡ countOf limit es → notices ≡ countOf limit ns → inTime limit (s .time) ≡ true
+      → InsideOutcome l (s .outcome) → Inside l (s .reply)
+      → Answers l (record { outcome = s .outcome; time = s .time; events = events .all; notices = notices .all; reply = s .reply })
+      (under limit (settledOf l s es ns))
   under-all none e f h o p = record { means = rw (e, f); outcome = o; reply = p }
   under-all (some limit) e f h o p = record { means = rw (e, f, h); outcome = o; reply = p }
 
-  pub under-cut : (limit : Option ℕ) (t : ℕ) → limit ≡ some t → events ≡ countOf limit es → notices ≡ countOf limit ns → t < s .time → Answers l (record { outcome = Timeout; time = t; events = events .early; notices = notices .early; reply = record { at = 0; len = 0 } }) (under limit (settledOf l s es ns))
+  pub under-cut : (limit : Option ℕ) (t : ℕ) → limit ≡ some t → events ≡ countOf limit es → notices ≡ countOf limit ns → t < s .time
+      → Answers l (record { outcome = Timeout; time = t; events = events .early; notices = notices .early; reply = record { at = 0; len = 0 } })
+      (under limit (settledOf l s es ns))
   under-cut limit t i e f h = record { means = rw (e, f, i, lt-leb (s .time) t h); outcome = tt; reply = omega arith }

@@ -43,7 +43,8 @@ passed true o f e = (refl, e)
 passed false o f e = let z : _≡_ {A = ℕ} 0 1 = cc in absurd (omega arith)
 
 -- A reply that is granted has the bytes before the data.
-echoed-head : (m : Bool) (sub : Option ℕ) (r : List ℕ) (more : List (Check Fault)) → 0 < length r → firstOf (echoing m sub r ++ more) ≡ none → head sub ≤ length r
+echoed-head : (m : Bool) (sub : Option ℕ) (r : List ℕ) (more : List (Check Fault)) → 0 < length r → firstOf (echoing m sub r ++ more) ≡ none
+    → head sub ≤ length r
 echoed-head m none r more h e = omega arith
 echoed-head m (some s) r more h e = leb-true 2 (length r) (passed (leb 2 (length r)) _ _ e .0)
 
@@ -54,6 +55,8 @@ granted-head m a hush r h e =
     echoed-head m (a .sub) r more h (passed sid (firstOf (echoing m (a .sub) r ++ more)) (deviation 1) e .1)
 
 -- The checks of a positive whose SID is right: the sub-function's, and then whether it was to be suppressed.
-pub granted : (m : Bool) (a : Asked) (hush : Bool) (r : List ℕ) (echo : Option Fault) (quiet : Bool) → inStrict m (eqb (getD r 0 0) (bitOr (a .sid) 0x40)) ≡ true → echo ≡ firstOf (echoing m (a .sub) r) → quiet ≡ inStrict m (not hush) → decided some echo (cond quiet none (some (deviation 4))) ≡ firstOf (granting m a hush r)
+pub granted : (m : Bool) (a : Asked) (hush : Bool) (r : List ℕ) (echo : Option Fault) (quiet : Bool)
+    → inStrict m (eqb (getD r 0 0) (bitOr (a .sid) 0x40)) ≡ true → echo ≡ firstOf (echoing m (a .sub) r) → quiet ≡ inStrict m (not hush)
+    → decided some echo (cond quiet none (some (deviation 4))) ≡ firstOf (granting m a hush r)
 granted m a hush r echo quiet sid e q =
     rw (sid, e, q) (sym (first-append (echoing m (a .sub) r) (unless (inStrict m (not hush)) (deviation 4) ∷ [])))

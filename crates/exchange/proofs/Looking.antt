@@ -58,7 +58,8 @@ module _ {m : Bool} {a : Asked} {hush : Bool} {l : List ℕ} {place : Place} {r 
       refused : look m a hush (partOf l place) ≡ decided wrong (firstOf (refusing m a r)) (coded (getD r 2 0))
       refused = by-first ∙ rw (eq-eqb (getD r 0 0) 0x7f first) (judged wrong (refusing m a r) (coded (getD r 2 0)))
 
-      pub looked-refused : (f : Fault) → verdictOf (Failed f) ≡ firstOf (refusing m a r) → Looked l (Settles (faulted f)) (look m a hush (partOf l place))
+      pub looked-refused : (f : Fault) → verdictOf (Failed f) ≡ firstOf (refusing m a r)
+          → Looked l (Settles (faulted f)) (look m a hush (partOf l place))
       looked-refused f e = settled-wrong f (refused ∙ rw (← e))
 
       coded-step : verdictOf Passed ≡ firstOf (refusing m a r) → look m a hush (partOf l place) ≡ coded (getD r 2 0)
@@ -67,14 +68,18 @@ module _ {m : Bool} {a : Asked} {hush : Bool} {l : List ℕ} {place : Place} {r 
       pub looked-pending : verdictOf Passed ≡ firstOf (refusing m a r) → getD r 2 0 ≡ 0x78 → Looked l Pending (look m a hush (partOf l place))
       looked-pending e h = record { means = sym (coded-step e ∙ rw (eq-eqb (getD r 2 0) 0x78 h)); inside = tt }
 
-      pub looked-negative : {code : ℕ} → verdictOf Passed ≡ firstOf (refusing m a r) → code ≡ getD r 2 0 → code ≢ 0x78 → Looked l (Settles (NegativeResponse code)) (look m a hush (partOf l place))
+      pub looked-negative : {code : ℕ} → verdictOf Passed ≡ firstOf (refusing m a r) → code ≡ getD r 2 0 → code ≢ 0x78
+          → Looked l (Settles (NegativeResponse code)) (look m a hush (partOf l place))
       looked-negative {code} e h k = record { means = sym (coded-step e ∙ rw (← h, ne-eqb code 0x78 k)); inside = tt }
 
     module _ (first : getD r 0 0 ≢ 0x7f) where
-      grants : look m a hush (partOf l place) ≡ decided wrong (firstOf (granting m a hush r)) (settles (positive (behind (head (a .sub)) (part (place .at) r))))
-      grants = by-first ∙ rw (ne-eqb (getD r 0 0) 0x7f first) (judged wrong (granting m a hush r) (settles (positive (behind (head (a .sub)) (part (place .at) r)))))
+      grants : look m a hush (partOf l place) ≡ decided wrong (firstOf (granting m a hush r))
+          (settles (positive (behind (head (a .sub)) (part (place .at) r))))
+      grants = by-first ∙
+          rw (ne-eqb (getD r 0 0) 0x7f first) (judged wrong (granting m a hush r) (settles (positive (behind (head (a .sub)) (part (place .at) r)))))
 
-      pub looked-wrong : (f : Fault) → verdictOf (Failed f) ≡ firstOf (granting m a hush r) → Looked l (Settles (faulted f)) (look m a hush (partOf l place))
+      pub looked-wrong : (f : Fault) → verdictOf (Failed f) ≡ firstOf (granting m a hush r)
+          → Looked l (Settles (faulted f)) (look m a hush (partOf l place))
       looked-wrong f e = settled-wrong f (grants ∙ rw (← e))
 
       module _ {h : ℕ} (all : verdictOf Passed ≡ firstOf (granting m a hush r)) (before : h ≡ head (a .sub)) where
@@ -82,7 +87,8 @@ module _ {m : Bool} {a : Asked} {hush : Bool} {l : List ℕ} {place : Place} {r 
         head-fits =
             (rw before (granted-head m a hush r (omega arith) (sym all)), part-inside l (place .at) (place .len) r (reply .here) (omega arith))
 
-        pub looked-positive : Looked l (Settles (PositiveResponse (record { at = place .at + h; len = length r - h }))) (look m a hush (partOf l place))
+        pub looked-positive : Looked l (Settles (PositiveResponse (record { at = place .at + h; len = length r - h })))
+            (look m a hush (partOf l place))
         looked-positive =
             let bytes = behind-place l (place .at) (place .len) h r (reply .here) (head-fits .0) in
             record {

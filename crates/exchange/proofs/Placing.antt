@@ -29,7 +29,8 @@ pub whole-inside : (l : List ℕ) (at n : ℕ) → length (take n (drop at l)) �
 whole-inside l at n e h = omega (arith, length-take n (drop at l), length-drop at l)
 
 -- The part that an event names, cut at the end of the bytes.
-pub named-cut : (l : List ℕ) (e : Entry) (r : List ℕ) → r ≡ take (e .size) (drop (e .offset) l) → Named l e (record { at = e .offset; len = length r })
+pub named-cut : (l : List ℕ) (e : Entry) (r : List ℕ) → r ≡ take (e .size) (drop (e .offset) l)
+    → Named l e (record { at = e .offset; len = length r })
 named-cut l e r here =
     let cut : take (length r) (drop (e .offset) l) ≡ r = rw here (take-taken (e .size) (drop (e .offset) l)) in
     record { means = ap (λ (bs : List ℕ). part (e .offset) bs) (cut ∙ here); whole = ap length cut }

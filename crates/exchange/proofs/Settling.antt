@@ -2,7 +2,7 @@
 use Prim.Native.Nat.{ℕ, _+_, _-_, _/_, _≤_, _<_}
 use native.Mathlib.Nat.{sub-zero}
 use native.Mathlib.Omega.{arith}
-use mathlib.Core.Bool.{Bool, true, false}
+use mathlib.Core.Bool.{Bool, true, false, and-eq-true-iff}
 use mathlib.Core.Path.{_≡_, refl, sym, ap, subst, _∙_}
 use mathlib.Core.List.{List, [], _∷_, map}
 use mathlib.Core.Option.{Option}
@@ -22,7 +22,7 @@ use Rattle.exchange.specs.Meaning.{limitOf}
 use Rattle.exchange.specs.Places.{Inside, Placed, Turns, Silent, resume, Answers}
 use Rattle.exchange.specs.Guarded.{over}
 use Rattle.exchange.specs.Counts.{countOf, Under}
-use Rattle.exchange.proofs.Entries.{both, next-entry, beginning-inside, all-sound}
+use Rattle.exchange.proofs.Entries.{next-entry, beginning-inside, all-sound}
 use Rattle.exchange.proofs.Placing.{whole-inside}
 use Rattle.exchange.proofs.Counting.{count-none}
 use Rattle.exchange.proofs.Turning.{left, settle-none, settle-late, settle-turn}
@@ -44,7 +44,8 @@ pub record Held (m : Bool) (a : Asked) (limit : Option ℕ) (l r : List ℕ) (n 
   pub same : settle m a (left r l n i) hush d es ns ≡ begun m a l r
 
 module _ {m : Bool} {a : Asked} (timeout : RequestTimeout) {l r : List ℕ} where
-  pub held-first : withinLimits l r ≡ true → {hush : Bool} → hush ≡ suppresses (a .sub) → Held m a (limitOf timeout) l r (length l / 10) 0 hush (a .p2) (record { all = 0; early = 0 }) (record { all = 0; early = 0 })
+  pub held-first : withinLimits l r ≡ true → {hush : Bool} → hush ≡ suppresses (a .sub)
+      → Held m a (limitOf timeout) l r (length l / 10) 0 hush (a .p2) (record { all = 0; early = 0 }) (record { all = 0; early = 0 })
   held-first h e = record {
     es = [];
     ns = [];
@@ -59,25 +60,29 @@ module _ {m : Bool} {a : Asked} (timeout : RequestTimeout) {l r : List ℕ} wher
 
   module _ {n i : ℕ} {hush : Bool} {d : ℕ} {read notices : Count} (at : Held m a (limitOf timeout) l r n i hush d read notices) where
     -- Silence: its answer is the exchange's.
-    silent : {s : Settled} {v : Answer} → Silent hush d s → Under timeout s read notices v → silence hush d (at .es) (at .ns) ≡ begun m a l r → Answers r v (over m a (limitOf timeout) l r)
+    silent : {s : Settled} {v : Answer} → Silent hush d s → Under timeout s read notices v → silence hush d (at .es) (at .ns) ≡ begun m a l r
+        → Answers r v (over m a (limitOf timeout) l r)
     unfolding exchange
     silent {s} {v} quiet u e =
         let places = quiet .placed r in
         subst (λ (x : rules.Settled). Answers r v (under (limitOf timeout) x))
         (quiet .means r (at .es) (at .ns) ∙ e)
-        (u r (at .es) (at .ns) (at .events) (at .notes) (places .outcome) (whole-inside r (s .reply .at) (s .reply .len) (places .whole) (omega arith)))
+        (u r (at .es) (at .ns) (at .events) (at .notes) (places .outcome)
+        (whole-inside r (s .reply .at) (s .reply .len) (places .whole) (omega arith)))
 
     pub no-more : {s : Settled} {v : Answer} → Silent hush d s → Under timeout s read notices v → n ≤ i → Answers r v (over m a (limitOf timeout) l r)
     no-more quiet u h = silent quiet u (sym (settle-none m a r l n i hush d (at .es) (at .ns) h) ∙ at .same)
 
     module _ {e : Entry} (here : e ≡ entryAt l i) (more : i < n) where
-      pub too-late : {s : Settled} {v : Answer} → Silent hush d s → Under timeout s read notices v → d < e .time → Answers r v (over m a (limitOf timeout) l r)
+      pub too-late : {s : Settled} {v : Answer} → Silent hush d s → Under timeout s read notices v → d < e .time
+          → Answers r v (over m a (limitOf timeout) l r)
       too-late quiet u h = silent quiet u (sym (settle-late m a r l n i hush d (at .es) (at .ns) e here more h) ∙ at .same)
 
       rest-sound : (sound r e ≡ true) × (every (sound r) (entriesFrom l (n - (i + 1)) (i + 1)) ≡ true)
-      rest-sound = both (sound r e) _ (rw (next-entry l n i e here more) at (at .sound))
+      rest-sound = and-eq-true-iff (sound r e) _ .0 (rw (next-entry l n i e here more) at (at .sound))
 
-      module _ {x : Turned} (turns : Turns m a hush e r x) (early : e .time ≤ d) {read′ : Count} (more-read : (ts : List ℕ) → read ≡ countOf (limitOf timeout) ts → read′ ≡ countOf (limitOf timeout) (e .time ∷ ts)) where
+      module _ {x : Turned} (turns : Turns m a hush e r x) (early : e .time ≤ d) {read′ : Count}
+          (more-read : (ts : List ℕ) → read ≡ countOf (limitOf timeout) ts → read′ ≡ countOf (limitOf timeout) (e .time ∷ ts)) where
         went : (t : Turned) → x ≡ t → resume r (settle m a (left r l n (i + 1))) (e .time) hush d (at .es) (at .ns) t ≡ begun m a l r
         went t p =
             ap (resume r (settle m a (left r l n (i + 1))) (e .time) hush d (at .es) (at .ns)) (sym p) ∙
@@ -97,7 +102,9 @@ module _ {m : Bool} {a : Asked} (timeout : RequestTimeout) {l r : List ℕ} wher
           same = went Idle p;
         }
 
-        pub after-notice : {next : ℕ} {notices′ : Count} → x ≡ Notice next → ((ts : List ℕ) → notices ≡ countOf (limitOf timeout) ts → notices′ ≡ countOf (limitOf timeout) (e .time ∷ ts)) → Held m a (limitOf timeout) l r n (i + 1) false next read′ notices′
+        pub after-notice : {next : ℕ} {notices′ : Count} → x ≡ Notice next
+            → ((ts : List ℕ) → notices ≡ countOf (limitOf timeout) ts → notices′ ≡ countOf (limitOf timeout) (e .time ∷ ts))
+            → Held m a (limitOf timeout) l r n (i + 1) false next read′ notices′
         after-notice {next} p more-notices = record {
           es = e .time ∷ at .es;
           ns = e .time ∷ at .ns;
@@ -115,7 +122,8 @@ module _ {m : Bool} {a : Asked} (timeout : RequestTimeout) {l r : List ℕ} wher
         ends {s} {v} p u =
             let places : Placed r _ s = rw p at (turns .placed) in
             let begins = beginning-inside r e (rest-sound .0) in
-            let inside : Inside r (s .reply) = whole-inside r (s .reply .at) (s .reply .len) (places .whole) (omega (arith, places .starts, begins)) in
+            let inside : Inside r (s .reply) = whole-inside r (s .reply .at) (s .reply .len) (places .whole)
+            (omega (arith, places .starts, begins)) in
             subst (λ (z : rules.Settled). Answers r v (under (limitOf timeout) z))
             (went (Ends s) p)
             (u r (e .time ∷ at .es) (at .ns) (more-read (at .es) (at .events)) (at .notes) (places .outcome) inside)

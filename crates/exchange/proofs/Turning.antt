@@ -21,7 +21,8 @@ use Rattle.exchange.specs.Places.{Looked, Named, Turns, resume}
 use Rattle.exchange.proofs.Entries.{next-entry, no-entry, time-of}
 
 -- The reply that an event names is judged as the part at its place is.
-seen-as : (m : Bool) (a : Asked) (hush : Bool) {e : Entry} {l : List ℕ} {p : Place} {s : Step} → Named l e p → Looked l s (look m a hush (partOf l p)) → look m a hush (named l e) ≡ stepOf l s
+seen-as : (m : Bool) (a : Asked) (hush : Bool) {e : Entry} {l : List ℕ} {p : Place} {s : Step} → Named l e p → Looked l s (look m a hush (partOf l p))
+    → look m a hush (named l e) ≡ stepOf l s
 seen-as m a hush place seen = ap (look m a hush) (sym (place .means)) ∙ sym (seen .means)
 
 module _ {m : Bool} {a : Asked} {hush : Bool} {e : Entry} {l : List ℕ} where
@@ -32,10 +33,16 @@ module _ {m : Bool} {a : Asked} {hush : Bool} {e : Entry} {l : List ℕ} where
       placed = tt;
     }
 
-    pub turns-reply : {o : Outcome} {t : ℕ} → s ≡ Settles o → t ≡ finish a (outcomeOf l o) (e .time) → Turns m a hush e l (Ends (record { outcome = o; time = t; reply = p }))
+    pub turns-reply : {o : Outcome} {t : ℕ} → s ≡ Settles o → t ≡ finish a (outcomeOf l o) (e .time)
+        → Turns m a hush e l (Ends (record { outcome = o; time = t; reply = p }))
     turns-reply h f = record {
       means = λ on d es ns. rw (eq-eqb (e .kind) 0 kind, seen-as m a hush place seen, h, f, ← (place .means));
-      placed = record { outcome = rw h at (seen .inside); whole = place .whole; starts = rw (eq-eqb (e .kind) 0 kind) (omega (arith, ap (λ x. x .at) (place .means))) };
+      placed = record {
+        outcome = rw h at (seen .inside);
+        whole = place .whole;
+        starts = rw (eq-eqb (e .kind) 0 kind)
+            (omega (arith, ap (λ x. x .at) (place .means)));
+      };
     }
 
   module _ (other : e .kind ≢ 0) where
@@ -43,13 +50,15 @@ module _ {m : Bool} {a : Asked} {hush : Bool} {e : Entry} {l : List ℕ} where
     turns-idle h = record { means = λ on d es ns. rw (ne-eqb (e .kind) 0 other, eq-eqb (e .kind) 1 h); placed = tt }
 
     module _ (no-idle : e .kind ≢ 1) where
-      pub turns-ended : e .kind ≡ 2 → Turns m a hush e l (Ends (record { outcome = Disconnected; time = e .time; reply = record { at = 0; len = 0 } }))
+      pub turns-ended : e .kind ≡ 2
+          → Turns m a hush e l (Ends (record { outcome = Disconnected; time = e .time; reply = record { at = 0; len = 0 } }))
       turns-ended h = record {
         means = λ on d es ns. rw (ne-eqb (e .kind) 0 other, ne-eqb (e .kind) 1 no-idle, eq-eqb (e .kind) 2 h);
         placed = record { outcome = tt; whole = refl; starts = omega arith };
       }
 
-      pub turns-failed : e .kind ≢ 2 → Turns m a hush e l (Ends (record { outcome = Transport (e .size); time = e .time; reply = record { at = 0; len = 0 } }))
+      pub turns-failed : e .kind ≢ 2
+          → Turns m a hush e l (Ends (record { outcome = Transport (e .size); time = e .time; reply = record { at = 0; len = 0 } }))
       turns-failed h = record {
         means = λ on d es ns. rw (ne-eqb (e .kind) 0 other, ne-eqb (e .kind) 1 no-idle, ne-eqb (e .kind) 2 h);
         placed = record { outcome = tt; whole = refl; starts = omega arith };
@@ -69,6 +78,8 @@ module _ (m : Bool) (a : Asked) (r l : List ℕ) (n i : ℕ) (hush : Bool) (d : 
     unfolding settle
     settle-late h = rw (next-entry l n i e here more, time-of r e, lt-leb (e .time) d h)
 
-    pub settle-turn : e .time ≤ d → (t : Turned) → Turns m a hush e r t → settle m a (left r l n i) hush d es ns ≡ resume r (settle m a (left r l n (i + 1))) (e .time) hush d es ns t
+    pub settle-turn : e .time ≤ d → (t : Turned) → Turns m a hush e r t
+        → settle m a (left r l n i) hush d es ns ≡ resume r (settle m a (left r l n (i + 1))) (e .time) hush d es ns t
     unfolding settle
-    settle-turn h t turns = rw (next-entry l n i e here more, time-of r e, le-leb (e .time) d h) (turns .means (settle m a (left r l n (i + 1))) d es ns)
+    settle-turn h t turns = rw (next-entry l n i e here more, time-of r e, le-leb (e .time) d h)
+        (turns .means (settle m a (left r l n (i + 1))) d es ns)

@@ -178,20 +178,24 @@ module _ (l : List ℕ) where
   abbrev tried : ℕ → Bool → ℕ → Turned → exchange.Settled
   tried n hush t x = resume l (probe n) t hush 0 [] [] x
 
-  settled-back : (begins : ℕ) (s : Settled) → Placed l begins s → record { outcome = outcomeFrom (outcomeOf l (s .outcome)); time = s .time; reply = placeFrom (partOf l (s .reply)) } ≡ s
+  settled-back : (begins : ℕ) (s : Settled) → Placed l begins s
+      → record { outcome = outcomeFrom (outcomeOf l (s .outcome)); time = s .time; reply = placeFrom (partOf l (s .reply)) } ≡ s
   settled-back begins s h =
       let outcomes = outcome-back (s .outcome) (h .outcome) in
       let replies = place-back (s .reply) (h .whole) in
       λ i. record { outcome = outcomes i; time = s .time; reply = replies i }
 
-  tells : (hush : Bool) (t begins : ℕ) (x y : Turned) → PlacedTurn l begins x → PlacedTurn l begins y → tried 1 hush t x ≡ tried 1 hush t y → tried 2 hush t x ≡ tried 2 hush t y → x ≡ y
+  tells : (hush : Bool) (t begins : ℕ) (x y : Turned) → PlacedTurn l begins x → PlacedTurn l begins y → tried 1 hush t x ≡ tried 1 hush t y
+      → tried 2 hush t x ≡ tried 2 hush t y → x ≡ y
   tells hush t begins Idle Idle p q e f = refl
   tells hush t begins Idle (Notice next) p q e f = absurd (omega (arith, ap (λ (s : exchange.Settled). length (s .notices)) e))
-  tells hush t begins Idle (Ends s) p q e f = absurd (different (ap (λ (s : exchange.Settled). s .outcome) e) (ap (λ (s : exchange.Settled). s .outcome) f))
+  tells hush t begins Idle (Ends s) p q e f = absurd
+      (different (ap (λ (s : exchange.Settled). s .outcome) e) (ap (λ (s : exchange.Settled). s .outcome) f))
   tells hush t begins (Notice next) Idle p q e f = absurd (omega (arith, ap (λ (s : exchange.Settled). length (s .notices)) e))
   tells hush t begins (Notice next) (Notice next′) p q e f = ap Notice (ap (λ (s : exchange.Settled). s .time) e)
   tells hush t begins (Notice next) (Ends s) p q e f = absurd (omega (arith, ap (λ (s : exchange.Settled). length (s .notices)) e))
-  tells hush t begins (Ends s) Idle p q e f = absurd (different (sym (ap (λ (s : exchange.Settled). s .outcome) e)) (sym (ap (λ (s : exchange.Settled). s .outcome) f)))
+  tells hush t begins (Ends s) Idle p q e f = absurd
+      (different (sym (ap (λ (s : exchange.Settled). s .outcome) e)) (sym (ap (λ (s : exchange.Settled). s .outcome) f)))
   tells hush t begins (Ends s) (Notice next) p q e f = absurd (omega (arith, ap (λ (s : exchange.Settled). length (s .notices)) e))
   tells hush t begins (Ends s) (Ends s′) p q e f =
       ap Ends

@@ -29,4 +29,5 @@ countOf limit ts = record { all = length ts; early = countTo limit ts }
 -- An answer under T, whatever times the counts of events and of notices stand for.
 abbrev pub Under : RequestTimeout → Settled → Count → Count → Answer → Type 0
 Under timeout s events notices r =
-    (replies es ns : List ℕ) → events ≡ countOf (limitOf timeout) es → notices ≡ countOf (limitOf timeout) ns → InsideOutcome replies (s .outcome) → Inside replies (s .reply) → Answers replies r (exchange.under (limitOf timeout) (settledOf replies s es ns))
+    (replies es ns : List ℕ) → events ≡ countOf (limitOf timeout) es → notices ≡ countOf (limitOf timeout) ns → InsideOutcome replies
+    (s .outcome) → Inside replies (s .reply) → Answers replies r (exchange.under (limitOf timeout) (settledOf replies s es ns))

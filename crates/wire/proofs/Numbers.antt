@@ -20,7 +20,8 @@ value-from : (u w v : ℕ) → valueFrom u (bytesOf w v) ≡ u * 256 ^ w + v % 2
 value-from u zero v = rw (mod-one v) (omega arith)
 value-from u (suc w) v =
     let digit = v / 256 ^ w % 256 in
-    let split : v % (256 * 256 ^ w) ≡ digit * 256 ^ w + v % 256 ^ w = mod-mul v {m = 256} {c = 256 ^ w} (omega arith) (one-le-pow w 256 (omega arith)) in
+    let split : v % (256 * 256 ^ w) ≡ digit * 256 ^ w + v % 256 ^ w = mod-mul v {m = 256} {c = 256 ^ w} (omega arith)
+    (one-le-pow w 256 (omega arith)) in
     value-from (u * 256 + digit) w v ∙ rw (pow-succ' 256 w, split, add-mul, mul-assoc, add-assoc)
 
 pub value-back : (w v : ℕ) → v < 256 ^ w → value (bytesOf w v) ≡ v
@@ -44,7 +45,8 @@ none-yet z w = rw (sub-zero, take-append-drop)
 
 module _ (z : List ℕ) (w v j : ℕ) (fits : w ≤ length z) (more : j < w) where
   -- One byte more: the next one in front of those that stand already.
-  pub byte-more : set (take (w - j) z ++ (bytesOf j v ++ drop w z)) (w - 1 - j) (v / 256 ^ j % 256) ≡ take (w - (j + 1)) z ++ (bytesOf (j + 1) v ++ drop w z)
+  pub byte-more : set (take (w - j) z ++ (bytesOf j v ++ drop w z)) (w - 1 - j) (v / 256 ^ j % 256) ≡ take (w - (j + 1)) z ++
+      (bytesOf (j + 1) v ++ drop w z)
   byte-more =
       let k = w - suc j in
       let front : w - j ≡ suc k = omega arith in
@@ -58,7 +60,8 @@ rest-less v j = rw (add-one j, pow-suc 256 j, div-div-eq-div-mul)
 
 -- What it has written in the end, by whether all of the value is.
 module _ (w v : ℕ) (low : 1 ≤ w) (high : w ≤ 8) where
-  pub written : (bytes : List ℕ) → v / 256 ^ w ≤ 0 → bytes ≡ take (w - w) (replicate 15 0) ++ (bytesOf w v ++ drop w (replicate 15 0)) → record { refusal = 0; len = w; bytes = bytes } ≡ memoryBytes v w
+  pub written : (bytes : List ℕ) → v / 256 ^ w ≤ 0 → bytes ≡ take (w - w) (replicate 15 0) ++ (bytesOf w v ++ drop w (replicate 15 0))
+      → record { refusal = 0; len = w; bytes = bytes } ≡ memoryBytes v w
   unfolding memoryBytes
   written bytes h e =
       rw (le-leb 1 w low, le-leb w 8 high, lt-ltb v (256 ^ w) (small w v h), e, sub-self, drop-replicate w 15 0)

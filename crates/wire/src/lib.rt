@@ -27,6 +27,7 @@ pub fn byte_at(bytes: &[u8], at: usize) -> u8
     if at < bytes.len() { bytes[at] } else { 0 }
 }
 
+// The number of two bytes from an index on, high byte first.
 pub fn u16_at(bytes: &[u8], at: usize) -> u16
     ensures { λ r. ⌜ r ≡ u16At (now (bytes .entry)) at ⌝ }
 {
@@ -37,6 +38,7 @@ pub fn u16_at(bytes: &[u8], at: usize) -> u16
     }
 }
 
+// The number of four bytes.
 pub fn u32_at(bytes: &[u8], at: usize) -> u32
     ensures { λ r. ⌜ r ≡ u32At (now (bytes .entry)) at ⌝ }
 {

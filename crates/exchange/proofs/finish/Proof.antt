@@ -15,13 +15,18 @@ suppresses-requires : tie.Need-suppresses-requires
 suppresses-requires c κs = search needs
 
 returns : tie.Need-returns
-returns c = λ r. rw (sym ((c .before .before .before .before .waits .ensures) r) ∙ (c .before .before .before .if1 .taken), sym (c .before .before .suppresses .ensures) ∙ (c .before .if2 .taken)) (omega arith)
+returns c = λ r. rw
+    (sym ((c .before .before .before .before .waits .ensures) r) ∙ (c .before .before .before .if1 .taken), sym (c .before .before .suppresses .ensures) ∙ (c .before .if2 .taken))
+    (omega arith)
 
 returns-2 : tie.Need-returns-2
-returns-2 c = λ r. rw (sym ((c .before .before .before .before .waits .ensures) r) ∙ (c .before .before .before .if1 .taken), sym (c .before .before .suppresses .ensures) ∙ (c .before .if2 .taken)) (omega arith)
+returns-2 c = λ r. rw
+    (sym ((c .before .before .before .before .waits .ensures) r) ∙ (c .before .before .before .if1 .taken), sym (c .before .before .suppresses .ensures) ∙ (c .before .if2 .taken))
+    (omega arith)
 
 returns-3 : tie.Need-returns-3
-returns-3 c = λ r. rw (sym ((c .before .before .before .waits .ensures) r) ∙ (c .before .before .if1 .taken), sym (c .before .suppresses .ensures) ∙ (c .if2 .left))
+returns-3 c = λ r. rw
+    (sym ((c .before .before .before .waits .ensures) r) ∙ (c .before .before .if1 .taken), sym (c .before .suppresses .ensures) ∙ (c .if2 .left))
 
 returns-4 : tie.Need-returns-4
 returns-4 c = λ r. rw (sym ((c .before .waits .ensures) r) ∙ (c .if1 .left))

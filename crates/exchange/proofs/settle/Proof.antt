@@ -9,7 +9,8 @@ use Rattle.exchange.proofs.settle.Statement.{statement}
 use Rattle.exchange.proofs.settle.Tie as tie
 
 abbrev Inv-loop : tie.InvT-loop
-Inv-loop strict asked timeout events replies n p2 i₀ hush₀ deadline₀ read₀ notices₀ i hush deadline read notices = Held strict (askedOf asked) (limitOf timeout) events replies n i hush deadline read notices
+Inv-loop strict asked timeout events replies n p2 i₀ hush₀ deadline₀ read₀ notices₀ i hush deadline read notices = Held strict (askedOf asked)
+    (limitOf timeout) events replies n i hush deadline read notices
 
 abbrev μ-loop : tie.MeasureT-loop
 μ-loop strict asked timeout events replies n p2 i₀ hush₀ deadline₀ read₀ notices₀ i hush deadline read notices = n - i
@@ -45,7 +46,11 @@ add-i : tie.Need-add-i Inv-loop μ-loop
 add-i c = omega arith
 
 counted-requires : tie.Need-counted-requires Inv-loop μ-loop
-counted-requires c κs = let l = c .before .before .before .before .loop in omega (arith, count-size (limitOf (c .before .before .before .before .before .before .before .before .before .args .timeout)) (l .inv .es) (l .read) (l .inv .events), l .inv .passed)
+counted-requires c κs = let l = c .before .before .before .before .loop in omega (
+  arith,
+  count-size (limitOf (c .before .before .before .before .before .before .before .before .before .args .timeout)) (l .inv .es) (l .read) (l .inv .events),
+  l .inv .passed,
+)
 
 turn-requires : tie.Need-turn-requires Inv-loop μ-loop
 turn-requires c κs = search needs
@@ -57,7 +62,11 @@ loop-less : tie.Need-loop-less Inv-loop μ-loop
 loop-less c = omega arith
 
 loop-again : tie.Need-loop-again Inv-loop μ-loop
-loop-again c = after-idle (c .before .before .before .before .before .before .before .before .before .before .before .before .before .args .timeout) (c .before .before .before .before .before .before .before .before .loop .inv) (c .before .before .before .before .before .before .event-at .ensures) (c .before .before .before .before .before .before .before .if1 .left) (c .before .before .turn .ensures) (c .before .before .before .before .if2 .left) (c .before .before .before .counted .ensures) (c .enum-told .given .1)
+loop-again c = after-idle (c .before .before .before .before .before .before .before .before .before .before .before .before .before .args .timeout)
+    (c .before .before .before .before .before .before .before .before .loop .inv)
+    (c .before .before .before .before .before .before .event-at .ensures) (c .before .before .before .before .before .before .before .if1 .left)
+    (c .before .before .turn .ensures) (c .before .before .before .before .if2 .left) (c .before .before .before .counted .ensures)
+    (c .enum-told .given .1)
 
 enum-known-next : tie.Need-enum-known-next Inv-loop μ-loop
 enum-known-next c = search needs
@@ -65,13 +74,26 @@ enum-known-next c = search needs
 counted-requires-2 : tie.Need-counted-requires-2 Inv-loop μ-loop
 counted-requires-2 c κs =
     let l = c .before .before .before .before .before .before .before .before .before .loop in
-    omega (arith, count-size (limitOf (c .before .before .before .before .before .before .before .before .before .before .before .before .before .before .args .timeout)) (l .inv .ns) (l .notices) (l .inv .notes), l .inv .fewer, (c .before .before .before .before .before .before .before .before .if1 .left), (c .before .before .before .before .before .before .before .before .before .before .before .before .before .before .good))
+    omega (
+      arith,
+      count-size (limitOf (c .before .before .before .before .before .before .before .before .before .before .before .before .before .before .args .timeout))
+          (l .inv .ns) (l .notices) (l .inv .notes),
+      l .inv .fewer,
+      (c .before .before .before .before .before .before .before .before .if1 .left),
+      (c .before .before .before .before .before .before .before .before .before .before .before .before .before .before .good),
+    )
 
 loop-less-2 : tie.Need-loop-less-2 Inv-loop μ-loop
 loop-less-2 c = omega arith
 
 loop-again-2 : tie.Need-loop-again-2 Inv-loop μ-loop
-loop-again-2 c = after-notice (c .before .before .before .before .before .before .before .before .before .before .before .before .before .before .before .args .timeout) (c .before .before .before .before .before .before .before .before .before .before .loop .inv) (c .before .before .before .before .before .before .before .before .event-at .ensures) (c .before .before .before .before .before .before .before .before .before .if1 .left) (c .before .before .before .before .turn .ensures) (c .before .before .before .before .before .before .if2 .left) (c .before .before .before .before .before .counted .ensures) (c .before .before .next .given .1) (c .counted2 .ensures)
+loop-again-2 c = after-notice
+    (c .before .before .before .before .before .before .before .before .before .before .before .before .before .before .before .args .timeout)
+    (c .before .before .before .before .before .before .before .before .before .before .loop .inv)
+    (c .before .before .before .before .before .before .before .before .event-at .ensures)
+    (c .before .before .before .before .before .before .before .before .before .if1 .left)
+    (c .before .before .before .before .turn .ensures) (c .before .before .before .before .before .before .if2 .left)
+    (c .before .before .before .before .before .counted .ensures) (c .before .before .next .given .1) (c .counted2 .ensures)
 
 enum-known-settled : tie.Need-enum-known-settled Inv-loop μ-loop
 enum-known-settled c = search needs
@@ -80,13 +102,22 @@ under-requires-3 : tie.Need-under-requires-3 Inv-loop μ-loop
 under-requires-3 c κs = search needs
 
 returns : tie.Need-returns Inv-loop μ-loop
-returns c = no-more (c .before .before .before .before .before .before .before .before .args .timeout) (c .before .before .before .loop .inv) (c .before .silence .ensures) (c .under .ensures) (c .before .before .if1 .taken)
+returns c = no-more (c .before .before .before .before .before .before .before .before .args .timeout) (c .before .before .before .loop .inv)
+    (c .before .silence .ensures) (c .under .ensures) (c .before .before .if1 .taken)
 
 returns-2 : tie.Need-returns-2 Inv-loop μ-loop
-returns-2 c = too-late (c .before .before .before .before .before .before .before .before .before .before .before .args .timeout) (c .before .before .before .before .before .before .loop .inv) (c .before .before .before .before .event-at .ensures) (c .before .before .before .before .before .if1 .left) (c .before .silence2 .ensures) (c .under2 .ensures) (c .before .before .if2 .taken)
+returns-2 c = too-late (c .before .before .before .before .before .before .before .before .before .before .before .args .timeout)
+    (c .before .before .before .before .before .before .loop .inv) (c .before .before .before .before .event-at .ensures)
+    (c .before .before .before .before .before .if1 .left) (c .before .silence2 .ensures) (c .under2 .ensures) (c .before .before .if2 .taken)
 
 returns-3 : tie.Need-returns-3 Inv-loop μ-loop
-returns-3 c = ends (c .before .before .before .before .before .before .before .before .before .before .before .before .before .before .before .args .timeout) (c .before .before .before .before .before .before .before .before .before .before .loop .inv) (c .before .before .before .before .before .before .before .before .event-at .ensures) (c .before .before .before .before .before .before .before .before .before .if1 .left) (c .before .before .before .before .turn .ensures) (c .before .before .before .before .before .before .if2 .left) (c .before .before .before .before .before .counted .ensures) (c .before .before .settled .given .1) (c .under3 .ensures)
+returns-3 c = ends
+    (c .before .before .before .before .before .before .before .before .before .before .before .before .before .before .before .args .timeout)
+    (c .before .before .before .before .before .before .before .before .before .before .loop .inv)
+    (c .before .before .before .before .before .before .before .before .event-at .ensures)
+    (c .before .before .before .before .before .before .before .before .before .if1 .left)
+    (c .before .before .before .before .turn .ensures) (c .before .before .before .before .before .before .if2 .left)
+    (c .before .before .before .before .before .counted .ensures) (c .before .before .settled .given .1) (c .under3 .ensures)
 
 pub settle-spec : {M : Type 1} → statement M
 settle-spec =

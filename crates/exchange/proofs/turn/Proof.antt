@@ -23,7 +23,8 @@ add-t14 : tie.Need-add-t14
 add-t14 c = search needs
 
 returns : tie.Need-returns
-returns c = turns-notice (c .before .before .before .before .if1 .taken) (c .before .before .before .named .ensures) (c .before .before .look .ensures) (c .enum-told .given .1)
+returns c = turns-notice (c .before .before .before .before .if1 .taken) (c .before .before .before .named .ensures)
+    (c .before .before .look .ensures) (c .enum-told .given .1)
 
 enum-known-outcome : tie.Need-enum-known-outcome
 enum-known-outcome c = search needs
@@ -32,7 +33,9 @@ finish-requires : tie.Need-finish-requires
 finish-requires c κs = search needs
 
 returns-2 : tie.Need-returns-2
-returns-2 c = turns-reply (c .before .before .before .before .before .before .if1 .taken) (c .before .before .before .before .before .named .ensures) (c .before .before .before .before .look .ensures) (c .before .before .outcome .given .1) ((c .finish .ensures) (c .before .before .before .before .before .before .before .before .before .before .args .replies .now))
+returns-2 c = turns-reply (c .before .before .before .before .before .before .if1 .taken) (c .before .before .before .before .before .named .ensures)
+    (c .before .before .before .before .look .ensures) (c .before .before .outcome .given .1)
+    ((c .finish .ensures) (c .before .before .before .before .before .before .before .before .before .before .args .replies .now))
 
 returns-3 : tie.Need-returns-3
 returns-3 c = turns-idle (c .before .if1 .left) (c .if2 .taken)

@@ -40,7 +40,9 @@ part-result-end-2 : tie.Need-part-result-end-2
 part-result-end-2 c = search needs
 
 returns-3 : tie.Need-returns-3
-returns-3 c = sym (part-rest (c .before .before .before .args .bytes .now) (c .before .before .before .args .at) (c .before .before .before .args .len) (c .before .if2 .left))
+returns-3 c = sym
+    (part-rest (c .before .before .before .args .bytes .now) (c .before .before .before .args .at) (c .before .before .before .args .len)
+    (c .before .if2 .left))
 
 pub part-spec : {M : Type 1} → statement M
 part-spec =

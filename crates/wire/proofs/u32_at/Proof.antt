@@ -23,7 +23,11 @@ add-if2 : tie.Need-add-if2
 add-if2 c = search needs
 
 returns-2 : tie.Need-returns-2
-returns-2 c = omega (arith, u16-past (c .before .before .before .before .before .args .bytes .now) ((c .before .before .before .before .before .args .at) + 2) (omega arith))
+returns-2 c = omega (
+  arith,
+  u16-past (c .before .before .before .before .before .args .bytes .now) ((c .before .before .before .before .before .args .at) + 2)
+      (omega arith),
+)
 
 add-u16-at : tie.Need-add-u16-at
 add-u16-at c = search needs

@@ -24,13 +24,23 @@ in-strict-requires : tie.Need-in-strict-requires
 in-strict-requires c κs = search needs
 
 returns-2 : tie.Need-returns-2
-returns-2 c = rw ((c .before .before .before .before .before .sub .given .1), le-leb _ _ (c .before .before .before .if1 .left), ← (c .before .before .byte-at .ensures), sym (c .before .in-strict .ensures) ∙ not-true _ (c .if2 .taken))
+returns-2 c = rw (
+  (c .before .before .before .before .before .sub .given .1),
+  le-leb _ _ (c .before .before .before .if1 .left),
+  ← (c .before .before .byte-at .ensures),
+  sym (c .before .in-strict .ensures) ∙ not-true _ (c .if2 .taken),
+)
 
 returns-3 : tie.Need-returns-3
 returns-3 c = search needs
 
 returns-4 : tie.Need-returns-4
-returns-4 c = rw ((c .before .before .before .before .before .sub .given .1), le-leb _ _ (c .before .before .before .if1 .left), ← (c .before .before .byte-at .ensures), sym (c .before .in-strict .ensures) ∙ not-false _ (c .if2 .left))
+returns-4 c = rw (
+  (c .before .before .before .before .before .sub .given .1),
+  le-leb _ _ (c .before .before .before .if1 .left),
+  ← (c .before .before .byte-at .ensures),
+  sym (c .before .in-strict .ensures) ∙ not-false _ (c .if2 .left),
+)
 
 pub echoing-spec : {M : Type 1} → statement M
 echoing-spec =

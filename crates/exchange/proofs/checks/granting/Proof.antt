@@ -33,23 +33,30 @@ in-strict-requires-2 c κs = search needs
 returns-2 : tie.Need-returns-2
 returns-2 c =
     let a = c .before .before .before .before .before .before .before .before .before .before .args in
-    let sid = rw (c .before .before .before .before .before .before .before .before .byte-at .ensures) at (sym (c .before .before .before .before .before .before .in-strict .ensures) ∙ not-false _ (c .before .before .before .before .before .if1 .left)) in
+    let sid = rw (c .before .before .before .before .before .before .before .before .byte-at .ensures) at
+    (sym (c .before .before .before .before .before .before .in-strict .ensures) ∙ not-false _
+    (c .before .before .before .before .before .if1 .left)) in
     let echo = ap verdictOf (sym (c .before .before .enum-told .given .1)) ∙ (c .before .before .before .before .echoing .ensures) in
-    granted (a .strict) (askedOf (a .asked)) (a .hush) (a .reply .now) none false sid echo (sym (not-true _ (c .if2 .taken)) ∙ (c .before .in-strict2 .ensures))
+    granted (a .strict) (askedOf (a .asked)) (a .hush) (a .reply .now) none false sid echo
+    (sym (not-true _ (c .if2 .taken)) ∙ (c .before .in-strict2 .ensures))
 
 returns-3 : tie.Need-returns-3
 returns-3 c =
     let a = c .before .before .before .before .before .before .before .before .before .args in
-    let sid = rw (c .before .before .before .before .before .before .before .byte-at .ensures) at (sym (c .before .before .before .before .before .in-strict .ensures) ∙ not-false _ (c .before .before .before .before .if1 .left)) in
+    let sid = rw (c .before .before .before .before .before .before .before .byte-at .ensures) at
+    (sym (c .before .before .before .before .before .in-strict .ensures) ∙ not-false _ (c .before .before .before .before .if1 .left)) in
     let echo = ap verdictOf (sym (c .before .fault .given .1)) ∙ (c .before .before .before .echoing .ensures) in
     granted (a .strict) (askedOf (a .asked)) (a .hush) (a .reply .now) _ _ sid echo refl
 
 returns-4 : tie.Need-returns-4
 returns-4 c =
     let a = c .before .before .before .before .before .before .before .before .before .before .args in
-    let sid = rw (c .before .before .before .before .before .before .before .before .byte-at .ensures) at (sym (c .before .before .before .before .before .before .in-strict .ensures) ∙ not-false _ (c .before .before .before .before .before .if1 .left)) in
+    let sid = rw (c .before .before .before .before .before .before .before .before .byte-at .ensures) at
+    (sym (c .before .before .before .before .before .before .in-strict .ensures) ∙ not-false _
+    (c .before .before .before .before .before .if1 .left)) in
     let echo = ap verdictOf (sym (c .before .before .enum-told .given .1)) ∙ (c .before .before .before .before .echoing .ensures) in
-    granted (a .strict) (askedOf (a .asked)) (a .hush) (a .reply .now) none true sid echo (sym (not-false _ (c .if2 .left)) ∙ (c .before .in-strict2 .ensures))
+    granted (a .strict) (askedOf (a .asked)) (a .hush) (a .reply .now) none true sid echo
+    (sym (not-false _ (c .if2 .left)) ∙ (c .before .in-strict2 .ensures))
 
 pub granting-spec : {M : Type 1} → statement M
 granting-spec =

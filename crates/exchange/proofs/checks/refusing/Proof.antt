@@ -18,7 +18,11 @@ length-error-requires-2 : tie.Need-length-error-requires-2
 length-error-requires-2 c κs = search needs
 
 returns-2 : tie.Need-returns-2
-returns-2 c = rw (le-leb _ _ (c .before .before .before .if1 .left), sym (c .before .before .in-strict .ensures) ∙ not-true _ (c .before .if2 .taken), (c .length-error2 .ensures))
+returns-2 c = rw (
+  le-leb _ _ (c .before .before .before .if1 .left),
+  sym (c .before .before .in-strict .ensures) ∙ not-true _ (c .before .if2 .taken),
+  (c .length-error2 .ensures),
+)
 
 byte-at-requires : tie.Need-byte-at-requires
 byte-at-requires c κs = search needs
@@ -27,10 +31,24 @@ in-strict-requires-2 : tie.Need-in-strict-requires-2
 in-strict-requires-2 c κs = search needs
 
 returns-3 : tie.Need-returns-3
-returns-3 c = rw (le-leb _ _ (c .before .before .before .before .before .before .if1 .left), sym (c .before .before .before .before .before .in-strict .ensures) ∙ not-false _ (c .before .before .before .before .if2 .left), ← (c .before .before .before .byte-at .ensures), sym (c .before .in-strict2 .ensures) ∙ not-true _ (c .if3 .taken))
+returns-3 c = rw (
+  le-leb _ _ (c .before .before .before .before .before .before .if1 .left),
+  sym (c .before .before .before .before .before .in-strict .ensures) ∙
+      not-false _ (c .before .before .before .before .if2 .left),
+  ← (c .before .before .before .byte-at .ensures),
+  sym (c .before .in-strict2 .ensures) ∙
+      not-true _ (c .if3 .taken),
+)
 
 returns-4 : tie.Need-returns-4
-returns-4 c = rw (le-leb _ _ (c .before .before .before .before .before .before .if1 .left), sym (c .before .before .before .before .before .in-strict .ensures) ∙ not-false _ (c .before .before .before .before .if2 .left), ← (c .before .before .before .byte-at .ensures), sym (c .before .in-strict2 .ensures) ∙ not-false _ (c .if3 .left))
+returns-4 c = rw (
+  le-leb _ _ (c .before .before .before .before .before .before .if1 .left),
+  sym (c .before .before .before .before .before .in-strict .ensures) ∙
+      not-false _ (c .before .before .before .before .if2 .left),
+  ← (c .before .before .before .byte-at .ensures),
+  sym (c .before .in-strict2 .ensures) ∙
+      not-false _ (c .if3 .left),
+)
 
 pub refusing-spec : {M : Type 1} → statement M
 refusing-spec =

@@ -26,7 +26,11 @@ u16-at-requires-3 : tie.Need-u16-at-requires-3
 u16-at-requires-3 c κs = search needs
 
 returns-2 : tie.Need-returns-2
-returns-2 c = rw ((c .before .before .before .u32-at .ensures), (c .before .before .u16-at .ensures), (c .before .u16-at2 .ensures), (c .u16-at3 .ensures)) (entry-read (c .before .before .before .before .before .before .before .args .events .now) (c .before .before .before .before .before .before .before .args .i) (c .before .before .before .before .part .result .now) (c .before .before .before .before .part .ensures))
+returns-2 c = rw
+    ((c .before .before .before .u32-at .ensures), (c .before .before .u16-at .ensures), (c .before .u16-at2 .ensures), (c .u16-at3 .ensures))
+    (entry-read (c .before .before .before .before .before .before .before .args .events .now)
+    (c .before .before .before .before .before .before .before .args .i) (c .before .before .before .before .part .result .now)
+    (c .before .before .before .before .part .ensures))
 
 pub event-at-spec : {M : Type 1} → statement M
 event-at-spec =

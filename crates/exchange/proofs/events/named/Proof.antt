@@ -16,7 +16,8 @@ part-requires : tie.Need-part-requires
 part-requires c κs = search needs
 
 returns : tie.Need-returns
-returns c = named-cut (c .before .before .before .before .args .replies .now) (entryOf (c .before .before .before .before .args .event)) (c .part .result .now) (c .part .ensures)
+returns c = named-cut (c .before .before .before .before .args .replies .now) (entryOf (c .before .before .before .before .args .event))
+    (c .part .result .now) (c .part .ensures)
 
 pub named-spec : {M : Type 1} → statement M
 named-spec = tie.close (tie.spec cast-at cast-part part-requires returns)

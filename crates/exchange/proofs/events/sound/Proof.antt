@@ -9,12 +9,14 @@ use Rattle.exchange.proofs.events.sound.Statement.{statement}
 use Rattle.exchange.proofs.events.sound.Tie as tie
 
 returns : tie.Need-returns
-returns c = let a = c .before .before .before .args in sym (sound-other (a .replies .now) (entryOf (a .event)) (omega arith) (omega arith) (c .before .if1 .taken))
+returns c = let a = c .before .before .before .args in sym
+    (sound-other (a .replies .now) (entryOf (a .event)) (omega arith) (omega arith) (c .before .if1 .taken))
 
 returns-2 : tie.Need-returns-2
 returns-2 c =
     let a = c .before .before .before .before .args in
-    sym (sound-reply (a .replies .now) (entryOf (a .event)) (omega arith) (c .before .before .before .before .pre) (c .before .before .if1 .left) ∙ rw (lt-leb _ _ (c .if2 .taken)))
+    sym (sound-reply (a .replies .now) (entryOf (a .event)) (omega arith) (c .before .before .before .before .pre) (c .before .before .if1 .left) ∙ rw
+    (lt-leb _ _ (c .if2 .taken)))
 
 cast-result : tie.Need-cast-result
 cast-result c = search needs
@@ -28,7 +30,8 @@ add-result c = search needs
 returns-3 : tie.Need-returns-3
 returns-3 c =
     let a = c .before .before .before .before .before .before .args in
-    sym (sound-reply (a .replies .now) (entryOf (a .event)) (omega arith) (c .before .before .before .before .before .before .pre) (c .before .before .before .before .if1 .left) ∙ rw (le-leb _ _ (c .before .before .if2 .left)))
+    sym (sound-reply (a .replies .now) (entryOf (a .event)) (omega arith) (c .before .before .before .before .before .before .pre)
+    (c .before .before .before .before .if1 .left) ∙ rw (le-leb _ _ (c .before .before .if2 .left)))
 
 pub sound-spec : {M : Type 1} → statement M
 sound-spec = tie.close (tie.spec returns returns-2 cast-result cast-result-2 add-result returns-3)

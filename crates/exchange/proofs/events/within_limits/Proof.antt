@@ -37,18 +37,26 @@ returns-3 : tie.Need-returns-3 Inv-loop μ-loop
 returns-3 c =
     let a = c .before .before .before .before .before .before .before .before .before .args in
     let l = c .before .before .before .before .loop in
-    let left = limits-fall (a .replies .now) (a .events .now) (length (a .events .now) / 10) (l .i) (l .last) (entryOf (c .before .before .event-at .result)) (c .before .before .event-at .ensures) (c .before .before .before .loop-test .taken) (c .if3 .taken) in
-    within (a .events .now) (a .replies .now) (c .before .before .before .before .before .before .if1 .left) (c .before .before .before .before .before .if2 .left) false (sym left ∙ l .inv .1)
+    let left = limits-fall (a .replies .now) (a .events .now) (length (a .events .now) / 10) (l .i) (l .last)
+    (entryOf (c .before .before .event-at .result)) (c .before .before .event-at .ensures) (c .before .before .before .loop-test .taken)
+    (c .if3 .taken) in
+    within (a .events .now) (a .replies .now) (c .before .before .before .before .before .before .if1 .left)
+    (c .before .before .before .before .before .if2 .left) false (sym left ∙ l .inv .1)
 
 sound-requires : tie.Need-sound-requires Inv-loop μ-loop
-sound-requires c κs = are-bytes (c .before .before .before .before .before .before .before .before .before .args .replies .now) (λ i. omega (arith, (c .before .before .before .before .before .before .before .shared-slice-known2 .given) i))
+sound-requires c κs = are-bytes (c .before .before .before .before .before .before .before .before .before .args .replies .now)
+    (λ i. omega (arith, (c .before .before .before .before .before .before .before .shared-slice-known2 .given) i))
 
 returns-4 : tie.Need-returns-4 Inv-loop μ-loop
 returns-4 c =
     let a = c .before .before .before .before .before .before .before .before .before .before .before .args in
     let l = c .before .before .before .before .before .before .loop in
-    let left = limits-go (a .replies .now) (a .events .now) (length (a .events .now) / 10) (l .i) (l .last) (entryOf (c .before .before .before .before .event-at .result)) (c .before .before .before .before .event-at .ensures) (c .before .before .before .before .before .loop-test .taken) false (sym (not-true _ (c .if4 .taken)) ∙ (c .before .sound .ensures)) (c .before .before .if3 .left) in
-    within (a .events .now) (a .replies .now) (c .before .before .before .before .before .before .before .before .if1 .left) (c .before .before .before .before .before .before .before .if2 .left) false (sym left ∙ l .inv .1)
+    let left = limits-go (a .replies .now) (a .events .now) (length (a .events .now) / 10) (l .i) (l .last)
+    (entryOf (c .before .before .before .before .event-at .result)) (c .before .before .before .before .event-at .ensures)
+    (c .before .before .before .before .before .loop-test .taken) false (sym (not-true _ (c .if4 .taken)) ∙ (c .before .sound .ensures))
+    (c .before .before .if3 .left) in
+    within (a .events .now) (a .replies .now) (c .before .before .before .before .before .before .before .before .if1 .left)
+    (c .before .before .before .before .before .before .before .if2 .left) false (sym left ∙ l .inv .1)
 
 add-i : tie.Need-add-i Inv-loop μ-loop
 add-i c = omega arith
@@ -60,14 +68,18 @@ loop-again : tie.Need-loop-again Inv-loop μ-loop
 loop-again c =
     let a = c .before .before .before .before .before .before .before .before .before .before .before .args in
     let l = c .before .before .before .before .before .before .loop in
-    let left = limits-go (a .replies .now) (a .events .now) (length (a .events .now) / 10) (l .i) (l .last) (entryOf (c .before .before .before .before .event-at .result)) (c .before .before .before .before .event-at .ensures) (c .before .before .before .before .before .loop-test .taken) true (sym (not-false _ (c .if4 .left)) ∙ (c .before .sound .ensures)) (c .before .before .if3 .left) in
+    let left = limits-go (a .replies .now) (a .events .now) (length (a .events .now) / 10) (l .i) (l .last)
+    (entryOf (c .before .before .before .before .event-at .result)) (c .before .before .before .before .event-at .ensures)
+    (c .before .before .before .before .before .loop-test .taken) true (sym (not-false _ (c .if4 .left)) ∙ (c .before .sound .ensures))
+    (c .before .before .if3 .left) in
     (omega arith, sym left ∙ l .inv .1)
 
 returns-5 : tie.Need-returns-5 Inv-loop μ-loop
 returns-5 c =
     let a = c .before .before .before .before .before .before .args in
     let l = c .before .loop in
-    within (a .events .now) (a .replies .now) (c .before .before .before .if1 .left) (c .before .before .if2 .left) true (rw (no-entry (a .events .now) (length (a .events .now) / 10) (l .i) (c .loop-test .left)) at (l .inv .1))
+    within (a .events .now) (a .replies .now) (c .before .before .before .if1 .left) (c .before .before .if2 .left) true
+    (rw (no-entry (a .events .now) (length (a .events .now) / 10) (l .i) (c .loop-test .left)) at (l .inv .1))
 
 pub within-limits-spec : {M : Type 1} → statement M
 within-limits-spec =
