@@ -97,6 +97,8 @@ pub detail-length : (h b : List ℕ) → length (hexOrDash (h ++ b)) ≡ shown (
 detail-length h b = shown-length (h ++ b) ∙ ap shown (length-append h b)
 
 -- The text's length, by the lengths of its parts.
-pub text-length : (w d : List ℕ) (t e n : ℕ) {x y z k : ℕ} → x ≡ length (decimal t) → y ≡ length (decimal e) → z ≡ length (decimal n) → k ≡ length d → length (text w t e n d) ≡ length w + (x + y + z + 5) + shown k
+pub text-length : (w d : List ℕ) (t e n : ℕ) {x y z k : ℕ} →
+    x ≡ length (decimal t) → y ≡ length (decimal e) → z ≡ length (decimal n) → k ≡ length d →
+    length (text w t e n d) ≡ length w + (x + y + z + 5) + shown k
 unfolding text
 text-length w d t e n ex ey ez ek = simp length-append (omega (arith, shown-length d, ap shown ek))

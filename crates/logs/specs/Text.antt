@@ -33,7 +33,7 @@ abbrev pub shown : ℕ → ℕ
 shown zero = 1
 shown (suc n) = suc n * 2
 
--- The text's length, by the lengths of its parts: 5 is the spaces and the newline.
+-- The text's length, by the lengths of its parts; 5 are the spaces and the newline.
 abbrev pub room : ℕ → ℕ → ℕ → ℕ → ℕ → ℕ
 room word time events notices detail =
     word + (length (decimal time) + length (decimal events) + length (decimal notices) + 5) + shown detail

@@ -134,16 +134,11 @@ fn neither(a: u16, b: u16) -> bool
 fn event_ok(kind: u16, offset: u16, size: u16) -> bool
     ensures { λ r. ⌜ r ≡ eventOk (entry 0 kind offset size) ⌝ }
 {
-    if kind == 1 {
-        return neither(offset, size);
+    match kind {
+        1 | 2 => neither(offset, size),
+        3 => offset == 0,
+        _ => true,
     }
-    if kind == 2 {
-        return neither(offset, size);
-    }
-    if kind == 3 {
-        return offset == 0;
-    }
-    true
 }
 
 fn events_ok(events: &[u8]) -> bool

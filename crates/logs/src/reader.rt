@@ -4,7 +4,7 @@ use crate::header::Header;
 use crate::header::area;
 use crate::header::header_at;
 ghost use mathlib.Core.Path.{_≡_};
-ghost use Prim.Native.Nat.{_-_, _≤_, min};
+ghost use Prim.Native.Nat.{_≤_, min};
 ghost use lib.ListN.{length};
 ghost use Rattle.rules.specs.Bytes.{value};
 ghost use Rattle.rules.specs.Logs.{headerOf};
@@ -20,19 +20,6 @@ pub fn new<'a>(log: &'a [u8]) -> LogReader<'a>
     ensures { λ r. ⌜ (r .log ≡ log .entry) × (r .at ≡ 0) ⌝ }
 {
     LogReader { log, at: 0 }
-}
-
-fn left_at(log: &[u8], at: usize) -> usize
-    ensures { λ r. ⌜ r ≡ length (now (log .entry)) - at ⌝ }
-{
-    if log.len() < at { 0 } else { log.len() - at }
-}
-
-// How many bytes are left.
-pub fn left<'a>(r: LogReader<'a>) -> usize
-    ensures { λ n. ⌜ n ≡ length (now (r .entry .log)) - r .entry .at ⌝ }
-{
-    left_at(r.log, r.at)
 }
 
 // The header at the reader's place.

@@ -142,6 +142,7 @@ fn fits(line: usize, word: usize, numbers: usize, head: usize, bytes: usize) -> 
     left > 0
 }
 
+// Writes the line at the buffer's front, or nothing where there is no room for it. The 5 are its spaces and the newline.
 pub fn put_line(
     line: &mut [u8],
     word: &[u8],

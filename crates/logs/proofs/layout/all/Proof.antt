@@ -23,7 +23,10 @@ shared-slice-read-if1 : tie.Need-shared-slice-read-if1 Inv-loop μ-loop
 shared-slice-read-if1 c = omega arith
 
 returns : tie.Need-returns Inv-loop μ-loop
-returns c = sym (all-turn ((c .before .before .before .before .args .tests .now)) ((c .before .before .before .loop .i)) false (c .before .before .loop-test .taken) (not-true _ (c .if1 .taken))) ∙ (c .before .before .before .loop .inv .1)
+returns c =
+    let l = c .before .before .before in
+    let failed = all-turn (l .before .args .tests .now) (l .loop .i) false (c .before .before .loop-test .taken) (not-true _ (c .if1 .taken)) in
+    sym failed ∙ l .loop .inv .1
 
 add-i : tie.Need-add-i Inv-loop μ-loop
 add-i c = omega arith
@@ -32,10 +35,15 @@ loop-less : tie.Need-loop-less Inv-loop μ-loop
 loop-less c = omega arith
 
 loop-again : tie.Need-loop-again Inv-loop μ-loop
-loop-again c = (omega arith, sym (all-turn ((c .before .before .before .before .args .tests .now)) ((c .before .before .before .loop .i)) true (c .before .before .loop-test .taken) (not-false _ (c .if1 .left))) ∙ (c .before .before .before .loop .inv .1))
+loop-again c =
+    let l = c .before .before .before in
+    let passed = all-turn (l .before .args .tests .now) (l .loop .i) true (c .before .before .loop-test .taken) (not-false _ (c .if1 .left)) in
+    (omega arith, sym passed ∙ l .loop .inv .1)
 
 returns-2 : tie.Need-returns-2 Inv-loop μ-loop
-returns-2 c = sym (all-end ((c .before .before .args .tests .now)) ((c .before .loop .i)) (c .loop-test .left)) ∙ (c .before .loop .inv .1)
+returns-2 c =
+    let l = c .before in
+    sym (all-end (l .before .args .tests .now) (l .loop .i) (c .loop-test .left)) ∙ l .loop .inv .1
 
 pub all-spec : {M : Type 1} → statement M
 all-spec =

@@ -24,12 +24,18 @@ abbrev μ-loop : tie.MeasureT-loop
 abbrev events : tie.After-event-ok Inv-loop μ-loop → List ℕ
 events e = e .before .before .before .before .before .before .before .args .events .now
 
-turn : (e : tie.After-event-ok Inv-loop μ-loop) (b : Bool) → e .event-ok .result ≡ b → let i = e .before .before .before .before .before .loop .i in (b && every eventOk (entriesFrom (events e) (length (events e) / 10 - (i + 1)) (i + 1))) ≡ every eventOk (entries (events e))
+-- Whether the events from index i on are sound.
+abbrev rest : List ℕ → ℕ → Bool
+rest bs i = every eventOk (entriesFrom bs (length bs / 10 - i) i)
+
+turn : (e : tie.After-event-ok Inv-loop μ-loop) (b : Bool) → e .event-ok .result ≡ b →
+    (b && rest (events e) (e .before .before .before .before .before .loop .i + 1)) ≡ every eventOk (entries (events e))
 turn e b r =
     let test = e .before .before .before .before in
     let at = test .before .loop in
-    let sound = event-at (events e) (at .i) (e .before .before .before .two .ensures) (e .before .before .two2 .ensures) (e .before .two3 .ensures) in
-    sym (event-turn (events e) (at .i) (length (events e) / 10) b (test .loop-test .taken) (sound ∙ sym (e .event-ok .ensures) ∙ r)) ∙ at .inv .1
+    let read = event-at (events e) (at .i) (e .before .before .before .two .ensures) (e .before .before .two2 .ensures) (e .before .two3 .ensures) in
+    let step = event-turn (events e) (at .i) (length (events e) / 10) b (test .loop-test .taken) (read ∙ sym (e .event-ok .ensures) ∙ r) in
+    sym step ∙ at .inv .1
 
 loop-holds : tie.Need-loop-holds Inv-loop μ-loop
 loop-holds c = (omega arith, rw sub-zero)
