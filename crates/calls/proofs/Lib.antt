@@ -1,0 +1,4 @@
+-- What the proofs of this crate share, and the theorems of a whole call.
+pub mod Rechecking
+pub mod Running
+pub mod Whole

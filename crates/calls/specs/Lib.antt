@@ -1,0 +1,3 @@
+-- What the contracts of `calls` cite besides `rules`.
+pub mod Meaning
+pub mod Concluded

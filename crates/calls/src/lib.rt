@@ -1,0 +1,172 @@
+// A whole call: the by-value core that all named functions share, and the session record that the host lends.
+use exchange::types::Answer;
+use exchange::types::Asked;
+use exchange::types::Outcome;
+use exchange::types::Place;
+use exchange::types::RequestTimeout;
+use requests::calls::Call;
+ghost use Prim.Native.Nat.{ℕ};
+ghost use mathlib.Core.List.{List};
+ghost use mathlib.Core.Path.{_≡_};
+ghost use Rattle.exchange.specs.Meaning.{outcomeOf};
+ghost use Rattle.requests.specs.Meaning.{callOf};
+ghost use Rattle.calls.specs.Meaning.{settingOf, lentOf, refusedOf, isRefused, Called};
+ghost use Rattle.calls.specs.Concluded.{Rechecked, Concluded};
+
+// "the session record, two numbers that the host lends": P2 and P2*, in milliseconds.
+pub struct Session {
+    pub p2: u32,
+    pub star: u32,
+}
+
+// What is asked, by value: the call and whether data is given, and how it is made.
+pub struct Ask {
+    pub call: Call,
+    pub present: bool,
+    pub quiet: bool,
+    pub strict: bool,
+    pub server: bool,
+    pub timeout: RequestTimeout,
+}
+
+// The answer, the number that calls 11 and 12 return, and the session's timing afterwards.
+pub struct Answered {
+    pub answer: Answer,
+    pub number: u64,
+    pub session: Session,
+}
+
+// "Refused: the number, time and counts 0, all buffers and timing untouched."
+fn refused(session: Session, number: u8) -> Answered
+    ensures { λ r. ⌜ r ≡ refusedOf session number ⌝ }
+{
+    let answer = Answer {
+        outcome: Outcome::Refused(number),
+        time: 0,
+        events: 0,
+        notices: 0,
+        reply: Place::NOWHERE,
+    };
+    Answered {
+        answer,
+        number: 0,
+        session,
+    }
+}
+
+// "The checks after a positive come later still and keep its finishing time."
+fn rechecked(ask: Ask, address: &[u8], size: &[u8], replies: &[u8], heard: Answer) -> Outcome
+    ensures { λ r. ⌜ Rechecked ask (now (address .entry)) (now (size .entry)) (now (replies .entry)) heard r ⌝ }
+{
+    let strict = ask.strict;
+    let call = ask.call;
+    let present = ask.present;
+    let outcome = heard.outcome;
+    let reply = heard.reply;
+    match outcome {
+        Outcome::PositiveResponse(_) => {
+            checks::check(strict, call, address, size, present, replies, reply)
+        }
+        Outcome::Suppressed => outcome,
+        Outcome::NegativeResponse(_) => outcome,
+        Outcome::Timeout => outcome,
+        Outcome::Disconnected => outcome,
+        Outcome::Transport(_) => outcome,
+        Outcome::ProtocolDeviation(_) => outcome,
+        Outcome::InvalidResponseLength => outcome,
+        Outcome::BlockLengthOverflow => outcome,
+        Outcome::Refused(_) => outcome,
+    }
+}
+
+// What was heard, checked; the number and the session's timing that come of it.
+fn concluded(
+    session: Session,
+    ask: Ask,
+    address: &[u8],
+    size: &[u8],
+    replies: &[u8],
+    heard: Answer,
+) -> Answered
+    ensures { λ r. ⌜ Concluded session ask (now (address .entry)) (now (size .entry)) (now (replies .entry)) heard r ⌝ }
+{
+    let call = ask.call;
+    let server = ask.server;
+    let outcome = rechecked(ask, address, size, replies, heard);
+    let number = checks::number(call, outcome, replies);
+    let timing = checks::timing(server, call, outcome, replies, session.p2, session.star);
+    let reply = heard.reply;
+    let answer = Answer {
+        outcome,
+        time: heard.time,
+        events: heard.events,
+        notices: heard.notices,
+        reply,
+    };
+    let session = Session {
+        p2: timing.p2,
+        star: timing.star,
+    };
+    Answered {
+        answer,
+        number,
+        session,
+    }
+}
+
+fn is_refused(outcome: Outcome) -> bool
+    ensures { λ r. ⌜ ((replies : List ℕ) → r ≡ isRefused (outcomeOf replies outcome)) ⌝ }
+{
+    match outcome {
+        Outcome::PositiveResponse(_) => false,
+        Outcome::Suppressed => false,
+        Outcome::NegativeResponse(_) => false,
+        Outcome::Timeout => false,
+        Outcome::Disconnected => false,
+        Outcome::Transport(_) => false,
+        Outcome::ProtocolDeviation(_) => false,
+        Outcome::InvalidResponseLength => false,
+        Outcome::BlockLengthOverflow => false,
+        Outcome::Refused(_) => true,
+    }
+}
+
+// The whole call. Refusals 1 to 9 come first, then the exchange with refusal 10; the request is written once nothing can refuse it.
+pub fn run(
+    session: Session,
+    ask: Ask,
+    request: &mut [u8],
+    address: &[u8],
+    size: &[u8],
+    data: &[u8],
+    events: &[u8],
+    replies: &[u8],
+) -> Answered
+    ensures { λ r. ⌜ Called (ask .strict) (settingOf ask session) (callOf (ask .call) (now (address .entry)) (now (size .entry)) (ask .present) (now («data» .entry))) (lentOf (now (request .entry)) (now (events .entry)) (now (replies .entry))) r (now (request .exit)) ⌝ }
+{
+    let call = ask.call;
+    let present = ask.present;
+    let quiet = ask.quiet;
+    let strict = ask.strict;
+    let timeout = ask.timeout;
+    let room = request.len();
+    let number = requests::refusal(call, quiet, address, size, present, data, room);
+    if number != 0 {
+        return refused(session, number);
+    }
+    let sid = requests::service_id(call);
+    let sub = requests::sub_function(call, quiet);
+    let asked = Asked {
+        sid,
+        sub,
+        p2: session.p2,
+        star: session.star,
+    };
+    let heard = exchange::exchange(strict, asked, timeout, events, replies);
+    let outcome = heard.outcome;
+    if is_refused(outcome) {
+        return refused(session, 10);
+    }
+    requests::write_request(request, quiet, call, address, size, present, data);
+    concluded(session, ask, address, size, replies, heard)
+}
