@@ -2,3 +2,4 @@
 pub mod Rechecking
 pub mod Running
 pub mod Whole
+pub mod Widths

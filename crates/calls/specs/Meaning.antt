@@ -5,11 +5,14 @@ use mathlib.Core.Path.{_≡_}
 use mathlib.Core.List.{List}
 use Rattle.rules.specs.Answers.{Outcome, positive, suppressed, negative, timeout, disconnected, transport, fault, refused}
 use Rattle.rules.specs.Calls as rules
-use Rattle.rules.specs.Client.{Result, call}
+use Rattle.rules.specs.Client.{Result}
+use Rattle.rules.specs.Client as client
 use Rattle.rules.specs.Settings.{Timing, Setting, Lent}
 use Rattle.exchange.specs.Meaning.{answerOf, limitOf}
 use Rattle.exchange.specs.Places.{Inside, InsideOutcome}
 use Rattle.exchange.specs.declared.types.Outcome.the-variants.{Refused}
+use Rattle.requests.specs.declared.calls.Call.{Call}
+use Rattle.requests.specs.declared.calls.Call.the-variants as call
 use Rattle.calls.specs.declared.Session.{Session}
 use Rattle.calls.specs.declared.Ask.{Ask}
 use Rattle.calls.specs.declared.Answered.{Answered}
@@ -59,8 +62,26 @@ isRefused (transport n) = false
 isRefused (fault f) = false
 isRefused (refused n) = true
 
+-- Calls 5, 6, 11 and 12.
+abbrev pub takesMemory : Call → Bool
+takesMemory (call.Request sid sub) = false
+takesMemory (call.DiagnosticSessionControl sub) = false
+takesMemory (call.EcuReset sub) = false
+takesMemory (call.SecurityAccess sub) = false
+takesMemory call.TesterPresent = false
+takesMemory call.ReadMemoryByAddress = true
+takesMemory call.WriteMemoryByAddress = true
+takesMemory (call.ReadDataByIdentifier id) = false
+takesMemory (call.WriteDataByIdentifier id) = false
+takesMemory (call.ReadDTCInformation mask) = false
+takesMemory (call.RoutineControl sub id) = false
+takesMemory (call.RequestDownload c e) = true
+takesMemory (call.RequestUpload c e) = true
+takesMemory (call.TransferData counter) = false
+takesMemory call.RequestTransferExit = false
+
 -- The call's result is r, with this in the request buffer afterwards. The places lie in the lent reply bytes, so their lengths are determined too.
 pub record Called (strict : Bool) (w : Setting) (c : rules.Call) (l : Lent) (r : Answered) (buffer : List ℕ) : Type 0 where
-  pub means : resultOf (l .replies) r buffer ≡ call strict w c l
+  pub means : resultOf (l .replies) r buffer ≡ client.call strict w c l
   pub outcome : InsideOutcome (l .replies) (r .answer .outcome)
   pub reply : Inside (l .replies) (r .answer .reply)

@@ -9,8 +9,9 @@ ghost use Prim.Native.Nat.{ℕ};
 ghost use mathlib.Core.List.{List};
 ghost use mathlib.Core.Path.{_≡_};
 ghost use Rattle.exchange.specs.Meaning.{outcomeOf};
-ghost use Rattle.requests.specs.Meaning.{callOf};
-ghost use Rattle.calls.specs.Meaning.{settingOf, lentOf, refusedOf, isRefused, Called};
+ghost use Rattle.rules.specs.Calls.{alfid};
+ghost use Rattle.requests.specs.Meaning.{callFrom, callOf};
+ghost use Rattle.calls.specs.Meaning.{settingOf, lentOf, refusedOf, isRefused, takesMemory, Called};
 ghost use Rattle.calls.specs.Concluded.{Rechecked, Concluded};
 
 // "the session record, two numbers that the host lends": P2 and P2*, in milliseconds.
@@ -169,4 +170,63 @@ pub fn run(
     }
     requests::write_request(request, quiet, call, address, size, present, data);
     concluded(session, ask, address, size, replies, heard)
+}
+
+// Calls 5, 6, 11 and 12.
+fn takes_memory(call: Call) -> bool
+    ensures { λ r. ⌜ r ≡ takesMemory call ⌝ }
+{
+    match call {
+        Call::Request(_, _) => false,
+        Call::DiagnosticSessionControl(_) => false,
+        Call::EcuReset(_) => false,
+        Call::SecurityAccess(_) => false,
+        Call::TesterPresent => false,
+        Call::ReadMemoryByAddress => true,
+        Call::WriteMemoryByAddress => true,
+        Call::ReadDataByIdentifier(_) => false,
+        Call::WriteDataByIdentifier(_) => false,
+        Call::ReadDTCInformation(_) => false,
+        Call::RoutineControl(_, _) => false,
+        Call::RequestDownload(_, _) => true,
+        Call::RequestUpload(_, _) => true,
+        Call::TransferData(_) => false,
+        Call::RequestTransferExit => false,
+    }
+}
+
+// The `alfid` form: "address and size as 64-bit numbers, each with a width in bytes, sent high byte first". Other calls take neither.
+pub fn run_alfid(
+    session: Session,
+    ask: Ask,
+    request: &mut [u8],
+    address: u64,
+    size: u64,
+    address_width: usize,
+    size_width: usize,
+    data: &[u8],
+    events: &[u8],
+    replies: &[u8],
+) -> Answered
+    ensures { λ r. ⌜ Called (ask .strict) (settingOf ask session) (callFrom (ask .call) (alfid address «address_width») (alfid size «size_width») (ask .present) (now («data» .entry))) (lentOf (now (request .entry)) (now (events .entry)) (now (replies .entry))) r (now (request .exit)) ⌝ }
+{
+    let call = ask.call;
+    if !takes_memory(call) {
+        return run(session, ask, request, b"", b"", data, events, replies);
+    }
+    let a = wire::memory_bytes(address, address_width);
+    let number = a.refusal;
+    if number != 0 {
+        return refused(session, number);
+    }
+    let s = wire::memory_bytes(size, size_width);
+    let number = s.refusal;
+    if number != 0 {
+        return refused(session, number);
+    }
+    let address = a.bytes;
+    let size = s.bytes;
+    let address = wire::part(&address, 0, a.len);
+    let size = wire::part(&size, 0, s.len);
+    run(session, ask, request, address, size, data, events, replies)
 }

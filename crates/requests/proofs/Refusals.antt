@@ -14,7 +14,7 @@ use Rattle.rules.specs.Refusals.{width, lengths, methods, arguments, refusals}
 use Rattle.requests.specs.Requests.{sizes, refusalOf}
 use Rattle.requests.proofs.Judging.{judge-append, Numbered, numbered-append, by-number}
 
-numbered-width : (f : Field) → Numbered (width f)
+pub numbered-width : (f : Field) → Numbered (width f)
 numbered-width (given bs) = tt
 numbered-width (alfid v w) = (refl, (refl, tt))
 

@@ -5,7 +5,7 @@ use mathlib.Core.List.{List}
 use mathlib.Core.Option.{Option, none, some}
 use Rattle.exchange.specs.Meaning.{subOf}
 use Rattle.rules.specs.Calls as rules
-use Rattle.rules.specs.Calls.{given}
+use Rattle.rules.specs.Calls.{Field, given}
 use Rattle.requests.specs.declared.calls.Call.{Call}
 use Rattle.requests.specs.declared.calls.Call.the-variants as call
 
@@ -14,20 +14,24 @@ abbrev pub dataOf : Bool → List ℕ → Option (List ℕ)
 dataOf true d = some d
 dataOf false d = none
 
--- Address, size, whether data is given, and the data. Calls 6 and 8 always have data.
+-- Address and size in either form, whether data is given, and the data. Calls 6 and 8 always have data.
+abbrev pub callFrom : Call → Field → Field → Bool → List ℕ → rules.Call
+callFrom (call.Request sid sub) a s p d = rules.request sid (subOf sub) (dataOf p d)
+callFrom (call.DiagnosticSessionControl sub) a s p d = rules.session sub
+callFrom (call.EcuReset sub) a s p d = rules.reset sub
+callFrom (call.SecurityAccess sub) a s p d = rules.security sub (dataOf p d)
+callFrom call.TesterPresent a s p d = rules.testerPresent
+callFrom call.ReadMemoryByAddress a s p d = rules.readMemory a s
+callFrom call.WriteMemoryByAddress a s p d = rules.writeMemory a s d
+callFrom (call.ReadDataByIdentifier id) a s p d = rules.readIdentifier id
+callFrom (call.WriteDataByIdentifier id) a s p d = rules.writeIdentifier id d
+callFrom (call.ReadDTCInformation mask) a s p d = rules.faultCount mask
+callFrom (call.RoutineControl sub id) a s p d = rules.routine sub id (dataOf p d)
+callFrom (call.RequestDownload c e) a s p d = rules.download c e a s
+callFrom (call.RequestUpload c e) a s p d = rules.upload c e a s
+callFrom (call.TransferData counter) a s p d = rules.transfer counter (dataOf p d)
+callFrom call.RequestTransferExit a s p d = rules.transferExit (dataOf p d)
+
+-- The slices that the code lends are address and size as bytes.
 abbrev pub callOf : Call → List ℕ → List ℕ → Bool → List ℕ → rules.Call
-callOf (call.Request sid sub) a s p d = rules.request sid (subOf sub) (dataOf p d)
-callOf (call.DiagnosticSessionControl sub) a s p d = rules.session sub
-callOf (call.EcuReset sub) a s p d = rules.reset sub
-callOf (call.SecurityAccess sub) a s p d = rules.security sub (dataOf p d)
-callOf call.TesterPresent a s p d = rules.testerPresent
-callOf call.ReadMemoryByAddress a s p d = rules.readMemory (given a) (given s)
-callOf call.WriteMemoryByAddress a s p d = rules.writeMemory (given a) (given s) d
-callOf (call.ReadDataByIdentifier id) a s p d = rules.readIdentifier id
-callOf (call.WriteDataByIdentifier id) a s p d = rules.writeIdentifier id d
-callOf (call.ReadDTCInformation mask) a s p d = rules.faultCount mask
-callOf (call.RoutineControl sub id) a s p d = rules.routine sub id (dataOf p d)
-callOf (call.RequestDownload c e) a s p d = rules.download c e (given a) (given s)
-callOf (call.RequestUpload c e) a s p d = rules.upload c e (given a) (given s)
-callOf (call.TransferData counter) a s p d = rules.transfer counter (dataOf p d)
-callOf call.RequestTransferExit a s p d = rules.transferExit (dataOf p d)
+callOf k a s p d = callFrom k (given a) (given s) p d
