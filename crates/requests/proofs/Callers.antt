@@ -1,9 +1,9 @@
 -- What the crates above cite, beside `Refusals`; and that one answer fits each public contract. `refusal` and `service_id` answer by a plain equation.
 use Prim.Native.Nat.{ℕ}
 use native.Mathlib.Omega.{arith}
-use mathlib.Core.Bool.{Bool, true, cond}
+use mathlib.Core.Bool.{Bool, true}
 use mathlib.Core.List.{List}
-use mathlib.Core.Path.{_≡_, refl, sym, ap, _∙_}
+use mathlib.Core.Path.{_≡_, refl, sym, _∙_}
 use lib.ListN.{length}
 use borrow.Author.Tests.{eq-eqb}
 use Rattle.exchange.specs.Meaning as exchange
@@ -34,7 +34,7 @@ lead (call.RequestUpload c e) a s p d = (refl, refl)
 lead (call.TransferData counter) a s p d = (refl, refl)
 lead call.RequestTransferExit a s p d = (refl, refl)
 
--- `sub_function`: its answer means what one answer only means.
+-- `sub_function`: no two answers mean the same.
 pub same-sub : (x y : SubFunction) → exchange.subOf x ≡ exchange.subOf y → x ≡ y
 same-sub Absent Absent e = refl
 same-sub Absent (Given s) e = absurd (let z : _≡_ {A = ℕ} 0 1 = cc in omega arith)

@@ -21,6 +21,9 @@ numbered-width (alfid v w) = (refl, (refl, tt))
 numbered-memory : (a s : Field) (cs : List (Check ℕ)) → Numbered cs → Numbered (width a ++ width s ++ cs)
 numbered-memory a s cs n = numbered-append (width a ++ width s) cs (numbered-append (width a) (width s) (numbered-width a) (numbered-width s)) n
 
+numbered-load : (c e : ℕ) (a s : Field) → Numbered (width a ++ width s ++ methods c e ++ lengths a s)
+numbered-load c e a s = numbered-append (width a ++ width s ++ methods c e) (lengths a s) (numbered-memory a s (methods c e) (refl, (refl, tt))) (refl, (refl, tt))
+
 pub numbered-arguments : (c : Call) → Numbered (arguments c)
 numbered-arguments (request sid sub d) = tt
 numbered-arguments (session sub) = tt
@@ -34,12 +37,12 @@ numbered-arguments (readIdentifier id) = tt
 numbered-arguments (writeIdentifier id d) = tt
 numbered-arguments (faultCount mask) = tt
 numbered-arguments (routine sub id d) = tt
-numbered-arguments (download c e a s) = numbered-append (width a ++ width s ++ methods c e) (lengths a s) (numbered-memory a s (methods c e) (refl, (refl, tt))) (refl, (refl, tt))
-numbered-arguments (upload c e a s) = numbered-append (width a ++ width s ++ methods c e) (lengths a s) (numbered-memory a s (methods c e) (refl, (refl, tt))) (refl, (refl, tt))
+numbered-arguments (download c e a s) = numbered-load c e a s
+numbered-arguments (upload c e a s) = numbered-load c e a s
 numbered-arguments (transfer counter d) = tt
 numbered-arguments (transferExit d) = tt
 
--- A call over a lent buffer, events and replies. `n` is what `refusal` answers.
+-- Document 01's judgement of a call, of which `refusal` answers n: `wrong` takes a refusal's number, x is the answer of a call that is not refused.
 module _ {B : Type 0} (wrong : ℕ → B) (quiet : Bool) (c : Call) (buffer events replies : List ℕ) (x : B) (n : ℕ) (told : n ≡ refusalOf quiet c (length buffer)) where
   abbrev judged : B
   judged = judge wrong (refusals c (requestOf quiet c) buffer events replies) x

@@ -3,7 +3,7 @@ use Prim.Native.Nat.{ℕ, _+_, _-_, _≤_, _<_}
 use native.Mathlib.Omega.{arith}
 use mathlib.Core.Bool.{Bool, true, false, cond}
 use mathlib.Core.List.{List, [], _∷_, _++_, append-assoc}
-use mathlib.Core.Logic.{_⊎_, inl, inr}
+use mathlib.Core.Logic.{inl, inr}
 use mathlib.Core.Path.{_≡_, refl, sym, ap, subst, _∙_}
 use lib.Dec.{leb, eqb}
 use lib.ListN.{length, take, drop, replicate, length-append, length-drop}
@@ -106,10 +106,10 @@ pub record Pieces (k : Call) (a s : List ℕ) (p : Bool) (d : List ℕ) (quiet :
   pub memory : Bool
   pub with-data : Bool
   pub parameters : Sent numbers memory with-data ≡ argumentsOf k a s p d
-  pub heads : head ≡ headOf (openingOf k quiet numbers)
-  pub addresses : address ≡ cond memory a []
-  pub sizes : size ≡ cond memory s []
-  pub datas : bytes ≡ cond with-data d []
+  pub is-head : head ≡ headOf (openingOf k quiet numbers)
+  pub is-address : address ≡ cond memory a []
+  pub is-size : size ≡ cond memory s []
+  pub is-data : bytes ≡ cond with-data d []
 
 module _ {k : Call} {a s : List ℕ} {p : Bool} {d : List ℕ} {quiet : Bool} {h : Head} {a′ s′ d′ : List ℕ} (x : Pieces k a s p d quiet h a′ s′ d′) where
   abbrev request : List ℕ
@@ -120,10 +120,10 @@ module _ {k : Call} {a s : List ℕ} {p : Bool} {d : List ℕ} {quiet : Bool} {h
       let opens = sidOf (bare k) ∷ byte (withBit7 quiet (rules.subOf (bare k))) in
       let l = lead k a s p d in
       let says-so = subst (Says (callOf k a s p d) a s d) (passed k a s p d quiet (x .parameters) .1) (says k a s p d) in
-      rw (l .0, l .1, says-so, x .addresses, x .sizes, x .datas) (regroup opens (numbersOf (x .numbers)) (cond (x .memory) a []) (cond (x .memory) s []) (cond (x .with-data) d []))
+      rw (l .0, l .1, says-so, x .is-address, x .is-size, x .is-data) (regroup opens (numbersOf (x .numbers)) (cond (x .memory) a []) (cond (x .memory) s []) (cond (x .with-data) d []))
 
   sized : length request ≡ h .0 + length a′ + length s′ + length d′
-  sized = ap length whole ∙ rw (x .heads) (simp length-append)
+  sized = ap length whole ∙ rw (x .is-head) (simp length-append)
 
   pub by-size : {n : ℕ} (room : ℕ) → n ≡ first (sizes (h .0 + length a′ + length s′ + length d′) room) → n ≡ refusalOf quiet (callOf k a s p d) room
   by-size room e = e ∙ rw (← sized) (sym (in-order k a s p d quiet room ∙ rw (passed k a s p d quiet (x .parameters) .0)))
@@ -131,11 +131,11 @@ module _ {k : Call} {a s : List ℕ} {p : Bool} {d : List ℕ} {quiet : Bool} {h
   -- `front`: the head's bytes.
   module _ {front : List ℕ} (e : front ≡ take (h .0) (drop 0 (h .1))) where
     in-front : front ≡ openingOf k quiet (x .numbers)
-    in-front = e ∙ rw (x .heads) (take-append-seam (openingOf k quiet (x .numbers)) (replicate (4 - length (openingOf k quiet (x .numbers))) 0))
+    in-front = e ∙ rw (x .is-head) (take-append-seam (openingOf k quiet (x .numbers)) (replicate (4 - length (openingOf k quiet (x .numbers))) 0))
 
     pub fitting : {n : ℕ} (room : ℕ) → n ≡ first (sizes (h .0 + length a′ + length s′ + length d′) room) → n ≡ 0 → length front + length a′ + length s′ + length d′ ≤ room
     fitting room f z =
-        let same : length front ≡ h .0 = ap length in-front ∙ rw (x .heads) in
+        let same : length front ≡ h .0 = ap length in-front ∙ rw (x .is-head) in
         rw same (room-for (h .0 + length a′ + length s′ + length d′) room (sym z ∙ f))
 
     pub written : {n : ℕ} (before : List ℕ) {after : List ℕ} → n ≡ refusalOf quiet (callOf k a s p d) (length before) → n ≡ 0 → after ≡ over (front ++ a′ ++ s′ ++ d′) before → Written quiet (callOf k a s p d) before true after

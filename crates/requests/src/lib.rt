@@ -108,7 +108,7 @@ fn when<'a>(sent: bool, bytes: &'a [u8]) -> &'a [u8]
     if sent { bytes } else { &bytes[..0] }
 }
 
-// Refusals 8 and 9 of a request in four pieces. A piece that is too long alone is refused first, so that the sum does not wrap.
+// Refusals 8 and 9 of a request in four pieces. One that is too long alone is refused first, so that the sum does not wrap.
 fn size_refusal(head: u8, address: usize, size: usize, data: usize, room: usize) -> u8
     ensures { λ r. ⌜ r ≡ first (sizes (head + address + size + «data») room) ⌝ }
 {
@@ -168,7 +168,8 @@ fn join(buffer: &mut [u8], head: &[u8], address: &[u8], size: &[u8], data: &[u8]
     wire::copy_into(buffer, at_data, data);
 }
 
-// "Not refused: the request stands at the buffer's front, the rest of it keeps its bytes." Where `refusal` is not 0 the answer is false and the buffer untouched.
+// "Not refused: the request stands at the buffer's front, the rest of it keeps its bytes."
+// Where `refusal` is not 0 the answer is false, and the buffer is untouched.
 pub fn write_request(
     buffer: &mut [u8],
     quiet: bool,

@@ -91,7 +91,7 @@ fn identifier(id: u16) -> Numbers
     Numbers::Two((id / 256) as u8, (id % 256) as u8)
 }
 
-// Each call's parameters. Data count only by whether they are given, so that the contract holds whatever they are.
+// Of the data only whether they are given matters: the contract holds whatever they are.
 pub fn arguments(call: Call, address: &[u8], size: &[u8], present: bool) -> Parameters
     ensures { λ r. ⌜ ((d : List ℕ) → r ≡ argumentsOf call (now (address .entry)) (now (size .entry)) present d) ⌝ }
 {

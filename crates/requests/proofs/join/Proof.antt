@@ -26,7 +26,13 @@ same-length : tie.Need-same-length
 same-length c = search needs
 
 returns : tie.Need-returns
-returns c = let a = (c .before .before .before .before .before .before .before .before .before .before .before .before .before .before .before .before .before .before .before .before .before .args) in joined (a .buffer .now) (a .head .now) (a .address .now) (a .size .now) (a .«data» .now) (c .before .before .before .before .before .before .before .before .before .before .before .before .before .before .before .before .before .before .before .before .before .pre) ((c .before .before .before .before .before .before .before .before .before .before .before .before .before .before .copy-into .ensures .buffer)) ((c .before .before .before .before .before .before .before .before .before .before .copy-into2 .ensures .buffer)) ((c .before .before .before .before .before .before .copy-into3 .ensures .buffer)) ((c .before .before .copy-into4 .ensures .buffer))
+returns c =
+    let s = c .before .before .before .before .before .before .before .before .before .before .before .before .before .before .before .before .before .before .before .before .before in
+    let a = s .args in
+    let first = c .before .before .before .before .before .before .before .before .before .before .before .before .before .before .copy-into .ensures .buffer in
+    let second = c .before .before .before .before .before .before .before .before .before .before .copy-into2 .ensures .buffer in
+    let third = c .before .before .before .before .before .before .copy-into3 .ensures .buffer in
+    joined (a .buffer .now) (a .head .now) (a .address .now) (a .size .now) (a .«data» .now) (s .pre) first second third (c .before .before .copy-into4 .ensures .buffer)
 
 pub join-spec : {M : Type 1} → statement M
 join-spec =

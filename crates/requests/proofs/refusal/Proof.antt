@@ -15,11 +15,11 @@ pieces c =
       numbers = n .0 .0;
       memory = n .0 .1 .0;
       with-data = n .0 .1 .1 .0;
-      parameters = sym (n .1) ∙ c .before .before .before .before .before .before .before .arguments .ensures (c .before .before .before .before .before .before .before .before .before .before .before .args .«data» .now);
-      heads = c .before .before .before .opening .ensures;
-      addresses = c .before .before .when .ensures;
-      sizes = c .before .when2 .ensures;
-      datas = c .when3 .ensures;
+      parameters = sym (n .1) ∙ c .before .before .before .before .before .before .before .arguments .ensures _;
+      is-head = c .before .before .before .opening .ensures;
+      is-address = c .before .before .when .ensures;
+      is-size = c .before .when2 .ensures;
+      is-data = c .when3 .ensures;
     }
 
 arguments-requires : tie.Need-arguments-requires
@@ -47,10 +47,13 @@ size-refusal-requires : tie.Need-size-refusal-requires
 size-refusal-requires c κs = search needs
 
 returns : tie.Need-returns
-returns c = let a = (c .before .before .before .before .before .before .before .args) in refused-arguments (a .call) (a .address .now) (a .size .now) (a .present) (a .«data» .now) (a .quiet) (a .room) (sym ((c .before .number .given .1)) ∙ (c .before .before .before .arguments .ensures) (a .«data» .now)) .0
+returns c =
+    let a = c .before .before .before .before .before .before .before .args in
+    let told = sym (c .before .number .given .1) ∙ c .before .before .before .arguments .ensures (a .«data» .now) in
+    refused-arguments (a .call) (a .address .now) (a .size .now) (a .present) (a .«data» .now) (a .quiet) (a .room) told .0
 
 returns-2 : tie.Need-returns-2
-returns-2 c = by-size (pieces (c .before)) ((c .before .before .before .before .before .before .before .before .before .before .before .before .args .room)) ((c .size-refusal .ensures))
+returns-2 c = by-size (pieces (c .before)) (c .before .before .before .before .before .before .before .before .before .before .before .before .args .room) (c .size-refusal .ensures)
 
 pub refusal-spec : {M : Type 1} → statement M
 refusal-spec =

@@ -1,19 +1,23 @@
 -- `requests::size_refusal` meets its contract.
-use Prim.Native.Nat.{_+_}
+use Prim.Native.Nat.{ℕ, _+_}
 use native.Mathlib.Omega.{arith}
 use borrow.Author.Needs.{needs}
 use Rattle.requests.proofs.Requests.{too-long, no-room, fits}
 use Rattle.requests.proofs.size_refusal.Statement.{statement}
 use Rattle.requests.proofs.size_refusal.Tie as tie
 
+-- The length of the request.
+abbrev total : tie.Start → ℕ
+total s = let a = s .args in a .head + a .address + a .size + a .«data»
+
 returns : tie.Need-returns
-returns c = let a = (c .before .args) in too-long (a .head + a .address + a .size + a .«data») (a .room) (omega arith)
+returns c = too-long (total (c .before)) (c .before .args .room) (omega arith)
 
 returns-2 : tie.Need-returns-2
-returns-2 c = let a = (c .before .before .args) in too-long (a .head + a .address + a .size + a .«data») (a .room) (omega arith)
+returns-2 c = too-long (total (c .before .before)) (c .before .before .args .room) (omega arith)
 
 returns-3 : tie.Need-returns-3
-returns-3 c = let a = (c .before .before .before .args) in too-long (a .head + a .address + a .size + a .«data») (a .room) (omega arith)
+returns-3 c = too-long (total (c .before .before .before)) (c .before .before .before .args .room) (omega arith)
 
 add-len : tie.Need-add-len
 add-len c = search needs
@@ -25,13 +29,13 @@ add-len-3 : tie.Need-add-len-3
 add-len-3 c = search needs
 
 returns-4 : tie.Need-returns-4
-returns-4 c = let a = (c .before .before .before .before .args) in too-long (a .head + a .address + a .size + a .«data») (a .room) (omega arith)
+returns-4 c = too-long (total (c .before .before .before .before)) (c .before .before .before .before .args .room) (omega arith)
 
 returns-5 : tie.Need-returns-5
-returns-5 c = let a = (c .before .before .before .before .before .args) in no-room (a .head + a .address + a .size + a .«data») (a .room) (omega arith) (omega arith)
+returns-5 c = no-room (total (c .before .before .before .before .before)) (c .before .before .before .before .before .args .room) (omega arith) (omega arith)
 
 returns-6 : tie.Need-returns-6
-returns-6 c = let a = (c .before .before .before .before .before .args) in fits (a .head + a .address + a .size + a .«data») (a .room) (omega arith) (omega arith)
+returns-6 c = fits (total (c .before .before .before .before .before)) (c .before .before .before .before .before .args .room) (omega arith) (omega arith)
 
 pub size-refusal-spec : {M : Type 1} → statement M
 size-refusal-spec =

@@ -76,22 +76,22 @@ enum-told-11 : tie.Need-enum-told-11
 enum-told-11 c = search needs
 
 returns : tie.Need-returns
-returns c = rw ((c .before .before .before .call .given .1), (c .enum-told .given .1))
+returns c = rw (c .before .before .before .call .given .1, c .enum-told .given .1)
 
 returns-2 : tie.Need-returns-2
-returns-2 c = rw ((c .before .before .before .before .before .call .given .1), (c .before .before .sub .given .1)) ((c .with-bit7 .ensures))
+returns-2 c = rw (c .before .before .before .before .before .call .given .1, c .before .before .sub .given .1) (c .with-bit7 .ensures)
 
 returns-3 : tie.Need-returns-3
-returns-3 c = rw ((c .before .before .call2 .given .1)) ((c .with-bit72 .ensures))
+returns-3 c = rw (c .before .before .call2 .given .1) (c .with-bit72 .ensures)
 
 returns-4 : tie.Need-returns-4
-returns-4 c = rw ((c .before .before .call3 .given .1)) ((c .with-bit73 .ensures))
+returns-4 c = rw (c .before .before .call3 .given .1) (c .with-bit73 .ensures)
 
 returns-5 : tie.Need-returns-5
-returns-5 c = rw ((c .before .before .call4 .given .1)) ((c .with-bit74 .ensures))
+returns-5 c = rw (c .before .before .call4 .given .1) (c .with-bit74 .ensures)
 
 returns-6 : tie.Need-returns-6
-returns-6 c = rw ((c .before .enum-told2 .given .1)) ((c .with-bit75 .ensures))
+returns-6 c = rw (c .before .enum-told2 .given .1) (c .with-bit75 .ensures)
 
 returns-7 : tie.Need-returns-7
 returns-7 c = search needs
@@ -106,10 +106,10 @@ returns-10 : tie.Need-returns-10
 returns-10 c = search needs
 
 returns-11 : tie.Need-returns-11
-returns-11 c = rw ((c .before .enum-told7 .given .1)) ((c .with-bit76 .ensures))
+returns-11 c = rw (c .before .enum-told7 .given .1) (c .with-bit76 .ensures)
 
 returns-12 : tie.Need-returns-12
-returns-12 c = rw ((c .before .before .call5 .given .1)) ((c .with-bit77 .ensures))
+returns-12 c = rw (c .before .before .call5 .given .1) (c .with-bit77 .ensures)
 
 returns-13 : tie.Need-returns-13
 returns-13 c = search needs

@@ -17,11 +17,11 @@ pieces c =
       numbers = n .0 .0;
       memory = n .0 .1 .0;
       with-data = n .0 .1 .1 .0;
-      parameters = sym (n .1) ∙ c .before .before .before .before .before .before .before .before .arguments .ensures (c .before .before .before .before .before .before .before .before .before .before .before .before .before .args .«data» .now);
-      heads = c .before .before .before .before .opening .ensures;
-      addresses = c .before .before .when .ensures;
-      sizes = c .before .when2 .ensures;
-      datas = c .when3 .ensures;
+      parameters = sym (n .1) ∙ c .before .before .before .before .before .before .before .before .arguments .ensures _;
+      is-head = c .before .before .before .before .opening .ensures;
+      is-address = c .before .before .when .ensures;
+      is-size = c .before .when2 .ensures;
+      is-data = c .when3 .ensures;
     }
 
 arguments-requires : tie.Need-arguments-requires
@@ -49,7 +49,11 @@ size-refusal-requires : tie.Need-size-refusal-requires
 size-refusal-requires c κs = search needs
 
 returns : tie.Need-returns
-returns c = let a = (c .before .before .before .before .before .before .before .before .before .before .before .before .before .before .before .args) in unwritten (a .call) (a .address .now) (a .size .now) (a .present) (a .«data» .now) (a .quiet) (a .buffer .now) (by-size (pieces (c .before .before)) (length (a .buffer .now)) ((c .before .size-refusal .ensures))) (ne-eqb _ _ ((c .if1 .taken)))
+returns c =
+    let a = c .before .before .before .before .before .before .before .before .before .before .before .before .before .before .before .args in
+    let before = a .buffer .now in
+    let refused = by-size (pieces (c .before .before)) (length before) (c .before .size-refusal .ensures) in
+    unwritten (a .call) (a .address .now) (a .size .now) (a .present) (a .«data» .now) (a .quiet) before refused (ne-eqb _ _ (c .if1 .taken))
 
 slice-aggregate-part : tie.Need-slice-aggregate-part
 slice-aggregate-part c = search needs
@@ -61,16 +65,28 @@ part-requires : tie.Need-part-requires
 part-requires c κs = search needs
 
 join-requires : tie.Need-join-requires
-join-requires c κs = fitting (pieces (c .before .before .before .before .before)) ((c .part .ensures)) (length ((c .before .before .before .before .before .before .before .before .before .before .before .before .before .before .before .before .before .before .args .buffer .now))) ((c .before .before .before .before .size-refusal .ensures)) ((c .before .before .before .if1 .left))
+join-requires c κs =
+    let x = pieces (c .before .before .before .before .before) in
+    let before = c .before .before .before .before .before .before .before .before .before .before .before .before .before .before .before .before .before .before .args .buffer .now in
+    fitting x (c .part .ensures) (length before) (c .before .before .before .before .size-refusal .ensures) (c .before .before .before .if1 .left)
 
 returns-2 : tie.Need-returns-2
-returns-2 c = let a = (c .before .before .before .before .before .before .before .args) in let r = refused-arguments (a .call) (a .address .now) (a .size .now) (a .present) (a .«data» .now) (a .quiet) (length (a .buffer .now)) (sym ((c .enum-told .given .1)) ∙ (c .before .before .arguments .ensures) (a .«data» .now)) in unwritten (a .call) (a .address .now) (a .size .now) (a .present) (a .«data» .now) (a .quiet) (a .buffer .now) (r .0) (r .1)
+returns-2 c =
+    let a = c .before .before .before .before .before .before .before .args in
+    let before = a .buffer .now in
+    let told = sym (c .enum-told .given .1) ∙ c .before .before .arguments .ensures (a .«data» .now) in
+    let r = refused-arguments (a .call) (a .address .now) (a .size .now) (a .present) (a .«data» .now) (a .quiet) (length before) told in
+    unwritten (a .call) (a .address .now) (a .size .now) (a .present) (a .«data» .now) (a .quiet) before (r .0) (r .1)
 
 same-length : tie.Need-same-length
 same-length c = search needs
 
 returns-3 : tie.Need-returns-3
-returns-3 c = let x = pieces (c .before .before .before .before .before .before .before .before) in let before = (c .before .before .before .before .before .before .before .before .before .before .before .before .before .before .before .before .before .before .before .before .before .args .buffer .now) in written x ((c .before .before .before .part .ensures)) before (by-size x (length before) ((c .before .before .before .before .before .before .before .size-refusal .ensures))) ((c .before .before .before .before .before .before .if1 .left)) ((c .before .before .join .ensures))
+returns-3 c =
+    let x = pieces (c .before .before .before .before .before .before .before .before) in
+    let before = c .before .before .before .before .before .before .before .before .before .before .before .before .before .before .before .before .before .before .before .before .before .args .buffer .now in
+    let told = by-size x (length before) (c .before .before .before .before .before .before .before .size-refusal .ensures) in
+    written x (c .before .before .before .part .ensures) before told (c .before .before .before .before .before .before .if1 .left) (c .before .before .join .ensures)
 
 pub write-request-spec : {M : Type 1} → statement M
 write-request-spec =

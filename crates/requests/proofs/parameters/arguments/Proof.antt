@@ -2,7 +2,6 @@
 use mathlib.Core.Bool.{true, false}
 use borrow.Author.Needs.{needs}
 use borrow.Author.Tests.{eq-eqb, ne-eqb}
-use Rattle.rules.specs.Calls.{given}
 use Rattle.requests.proofs.Parts.{memory-of, load-of}
 use Rattle.requests.proofs.parameters.arguments.Statement.{statement}
 use Rattle.requests.proofs.parameters.arguments.Tie as tie
@@ -20,10 +19,10 @@ enum-known-call : tie.Need-enum-known-call
 enum-known-call c = search needs
 
 returns : tie.Need-returns
-returns c = λ d. rw ((c .before .before .call .given .1), (c .if1 .taken))
+returns c = λ d. rw (c .before .before .call .given .1, c .if1 .taken)
 
 returns-2 : tie.Need-returns-2
-returns-2 c = λ d. rw ((c .before .before .before .call .given .1), (c .before .if1 .left), eq-eqb _ _ ((c .if2 .taken)))
+returns-2 c = λ d. rw (c .before .before .before .call .given .1, c .before .if1 .left, eq-eqb _ _ (c .if2 .taken))
 
 enum-told-4 : tie.Need-enum-told-4
 enum-told-4 c = search needs
@@ -98,49 +97,63 @@ enum-told-7 : tie.Need-enum-told-7
 enum-told-7 c = search needs
 
 returns-3 : tie.Need-returns-3
-returns-3 c = λ d. rw ((c .enum-told .given .1))
+returns-3 c = λ d. rw (c .enum-told .given .1)
 
 returns-4 : tie.Need-returns-4
-returns-4 c = λ d. rw ((c .enum-told2 .given .1))
+returns-4 c = λ d. rw (c .enum-told2 .given .1)
 
 returns-5 : tie.Need-returns-5
-returns-5 c = λ d. rw ((c .enum-told3 .given .1))
+returns-5 c = λ d. rw (c .enum-told3 .given .1)
 
 returns-6 : tie.Need-returns-6
-returns-6 c = λ d. rw ((c .before .before .before .call .given .1), (c .before .if1 .left), ne-eqb _ _ ((c .if2 .left)))
+returns-6 c = λ d. rw (c .before .before .before .call .given .1, c .before .if1 .left, ne-eqb _ _ (c .if2 .left))
 
 returns-7 : tie.Need-returns-7
-returns-7 c = λ d. rw ((c .enum-told4 .given .1))
+returns-7 c = λ d. rw (c .enum-told4 .given .1)
 
 returns-8 : tie.Need-returns-8
-returns-8 c = λ d. rw ((c .before .before .enum-told5 .given .1), (c .memory .ensures), (c .before .lengths .ensures)) (memory-of ((c .before .before .before .before .before .before .args .address .now)) ((c .before .before .before .before .before .before .args .size .now)) false)
+returns-8 c =
+    λ d.
+    let a = c .before .before .before .before .before .before .args in
+    rw (c .before .before .enum-told5 .given .1, c .memory .ensures, c .before .lengths .ensures) (memory-of (a .address .now) (a .size .now) false)
 
 returns-9 : tie.Need-returns-9
-returns-9 c = λ d. rw ((c .before .before .enum-told6 .given .1), (c .memory2 .ensures), (c .before .lengths2 .ensures)) (memory-of ((c .before .before .before .before .before .before .args .address .now)) ((c .before .before .before .before .before .before .args .size .now)) true)
+returns-9 c =
+    λ d.
+    let a = c .before .before .before .before .before .before .args in
+    rw (c .before .before .enum-told6 .given .1, c .memory2 .ensures, c .before .lengths2 .ensures) (memory-of (a .address .now) (a .size .now) true)
 
 returns-10 : tie.Need-returns-10
-returns-10 c = λ d. rw ((c .before .before .call2 .given .1), (c .identifier .ensures))
+returns-10 c = λ d. rw (c .before .before .call2 .given .1, c .identifier .ensures)
 
 returns-11 : tie.Need-returns-11
-returns-11 c = λ d. rw ((c .before .before .call3 .given .1), (c .identifier2 .ensures))
+returns-11 c = λ d. rw (c .before .before .call3 .given .1, c .identifier2 .ensures)
 
 returns-12 : tie.Need-returns-12
-returns-12 c = λ d. rw ((c .before .call4 .given .1))
+returns-12 c = λ d. rw (c .before .call4 .given .1)
 
 returns-13 : tie.Need-returns-13
-returns-13 c = λ d. rw ((c .before .before .call5 .given .1), (c .identifier3 .ensures))
+returns-13 c = λ d. rw (c .before .before .call5 .given .1, c .identifier3 .ensures)
 
 returns-14 : tie.Need-returns-14
-returns-14 c = λ d. rw ((c .before .before .before .before .call6 .given .1), (c .load .ensures), (c .before .lengths3 .ensures), (c .before .before .methods .ensures)) (load-of ((c .before .before .before .before .call6 .given .0 .0)) ((c .before .before .before .before .call6 .given .0 .1 .0)) ((c .before .before .before .before .before .before .before .before .args .address .now)) ((c .before .before .before .before .before .before .before .before .args .size .now)))
+returns-14 c =
+    λ d.
+    let a = c .before .before .before .before .before .before .before .before .args in
+    let methods = c .before .before .before .before .call6 .given in
+    rw (methods .1, c .load .ensures, c .before .lengths3 .ensures, c .before .before .methods .ensures) (load-of (methods .0 .0) (methods .0 .1 .0) (a .address .now) (a .size .now))
 
 returns-15 : tie.Need-returns-15
-returns-15 c = λ d. rw ((c .before .before .before .before .call7 .given .1), (c .load2 .ensures), (c .before .lengths4 .ensures), (c .before .before .methods2 .ensures)) (load-of ((c .before .before .before .before .call7 .given .0 .0)) ((c .before .before .before .before .call7 .given .0 .1 .0)) ((c .before .before .before .before .before .before .before .before .args .address .now)) ((c .before .before .before .before .before .before .before .before .args .size .now)))
+returns-15 c =
+    λ d.
+    let a = c .before .before .before .before .before .before .before .before .args in
+    let methods = c .before .before .before .before .call7 .given in
+    rw (methods .1, c .load2 .ensures, c .before .lengths4 .ensures, c .before .before .methods2 .ensures) (load-of (methods .0 .0) (methods .0 .1 .0) (a .address .now) (a .size .now))
 
 returns-16 : tie.Need-returns-16
-returns-16 c = λ d. rw ((c .before .call8 .given .1))
+returns-16 c = λ d. rw (c .before .call8 .given .1)
 
 returns-17 : tie.Need-returns-17
-returns-17 c = λ d. rw ((c .enum-told7 .given .1))
+returns-17 c = λ d. rw (c .enum-told7 .given .1)
 
 pub arguments-spec : {M : Type 1} → statement M
 arguments-spec =
