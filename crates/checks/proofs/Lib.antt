@@ -1,5 +1,8 @@
--- Laws of `checks`: parts of parts, checks in order, the data's place, and the answer with all that hangs on it.
+-- Laws of `checks`: parts of parts, block lengths, the data's place, the answer and what follows from it; that one answer fits, and what the contracts come to.
 pub mod Parts
-pub mod Judging
+pub mod Loading
 pub mod Handing
 pub mod Answering
+pub mod Following
+pub mod Unique
+pub mod Inside

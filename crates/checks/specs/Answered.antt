@@ -1,5 +1,5 @@
 -- What the contracts say beside `rules`: how code's values stand for the definitions', where places lie, and what is answered where a definition's value does not fit the code's numbers.
-use Prim.Native.Nat.{ℕ, _+_, _^_, _≤_}
+use Prim.Native.Nat.{ℕ, _^_}
 use mathlib.Core.Bool.{Bool, cond}
 use mathlib.Core.Path.{_≡_}
 use mathlib.Core.List.{List}
@@ -14,10 +14,15 @@ use Rattle.exchange.specs.declared.types.Place.{Place}
 use Rattle.exchange.specs.declared.types.Outcome.{Outcome}
 use Rattle.exchange.specs.declared.types.Outcome.the-variants as outcome
 use Rattle.exchange.specs.Meaning.{partOf, outcomeOf}
+use Rattle.exchange.specs.Places.{Inside, InsideOutcome}
 use Rattle.requests.specs.declared.calls.Call.{Call}
 use Rattle.requests.specs.Meaning.{callOf}
 use Rattle.checks.specs.declared.types.Timing.{Timing}
 use Rattle.checks.specs.declared.handed.Span.{Span}
+
+-- Of a call, whatever its address, its size and its data are.
+abbrev pub Whatever : Call → (calls.Call → Type 0) → Type 0
+Whatever c P = (a s : List ℕ) (present : Bool) (d : List ℕ) → P (callOf c a s present d)
 
 -- The call that is checked. Of an address or a size the first 15 bytes count: no request has more (refusals 2 and 3), and "2 + both lengths" is then a number of 64 bits.
 abbrev pub asked : Call → List ℕ → List ℕ → Bool → List ℕ → calls.Call
@@ -26,9 +31,6 @@ asked c a s present d = callOf c (take 15 a) (take 15 s) present d
 -- A part as a place can name it: what would begin past the end of the lent bytes is nowhere.
 abbrev pub lent : List ℕ → Part → Part
 lent replies p = cond (leb (p .at) (length replies)) p nowhere
-
-abbrev pub Inside : List ℕ → Place → Type 0
-Inside replies p = p .at + p .len ≤ length replies
 
 -- The place that an outcome names; (0, 0) where it names none.
 abbrev pub placeOf : Outcome → Place
@@ -49,16 +51,16 @@ answered replies o = ifPositive o (λ p. positive (lent replies p)) o
 -- What `check` answers, whatever the call's data is.
 pub record Checked (strict : Bool) (call : Call) (a s : List ℕ) (present : Bool) (replies : List ℕ) (place : Place) (r : Outcome) : Type 0 where
   pub means : (d : List ℕ) → outcomeOf replies r ≡ answered replies (checked strict (asked call a s present d) (partOf replies place))
-  pub inside : Inside replies (placeOf r)
+  pub inside : InsideOutcome replies r
 
--- The place of the data that a call hands out of the reply at a place, whatever its arguments are.
+-- The place of the data that a call hands out of the reply at a place.
 pub record Handed (call : Call) (replies : List ℕ) (place r : Place) : Type 0 where
-  pub means : (a s : List ℕ) (present : Bool) (d : List ℕ) → partOf replies r ≡ lent replies (handed (callOf call a s present d) (partOf replies place))
+  pub means : Whatever call (λ c. partOf replies r ≡ lent replies (handed c (partOf replies place)))
   pub inside : Inside replies r
 
 -- The data that a call hands out of a reply, wherever that stands.
 pub record HandsOut (call : Call) (reply : List ℕ) (r : Span) : Type 0 where
-  pub means : (a s : List ℕ) (present : Bool) (d : List ℕ) (at : ℕ) → handed (callOf call a s present d) (part at reply) ≡ first (r .count) (behind (r .skip) (part at reply))
+  pub means : (at : ℕ) → Whatever call (λ c. handed c (part at reply) ≡ first (r .1) (behind (r .0) (part at reply)))
 
 -- A number of 64 bits; 0 for one above.
 abbrev pub fitting : ℕ → ℕ
@@ -67,5 +69,5 @@ fitting v = cond (ltb v (2 ^ 64)) v 0
 abbrev pub timed : Timing → settings.Timing
 timed t = record { p2 = t .p2; star = t .star }
 
-abbrev pub given : ℕ → ℕ → settings.Timing
-given p2 star = record { p2 = p2; star = star }
+abbrev pub pair : ℕ → ℕ → settings.Timing
+pair p2 star = record { p2 = p2; star = star }

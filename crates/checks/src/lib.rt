@@ -2,7 +2,7 @@
 use crate::handed::handed;
 use crate::services::verdict;
 use crate::types::Timing;
-use exchange::error::Fault;
+use exchange::checks::outcome_of;
 use exchange::error::Verdict;
 use exchange::types::Outcome;
 use exchange::types::Place;
@@ -11,31 +11,18 @@ use lengths::block_length;
 use requests::calls::Call;
 use wire::part;
 use wire::u16_at;
-ghost use Prim.Native.Nat.{ℕ, _<_};
-ghost use mathlib.Core.Bool.{Bool};
-ghost use mathlib.Core.List.{List, []};
+ghost use Prim.Native.Nat.{_<_};
+ghost use mathlib.Core.List.{[]};
 ghost use mathlib.Core.Path.{_≡_};
 ghost use Rattle.rules.specs.After.{timingOf, numberOf};
 ghost use Rattle.rules.specs.Answers.{ifPositive};
 ghost use Rattle.rules.specs.Calls as calls;
-ghost use Rattle.exchange.specs.Meaning.{faulted, outcomeOf};
-ghost use Rattle.requests.specs.Meaning.{callOf};
-ghost use Rattle.checks.specs.Answered.{Checked, placeOf, fitting, timed, given};
+ghost use Rattle.exchange.specs.Meaning.{outcomeOf};
+ghost use Rattle.checks.specs.Answered.{Whatever, Checked, placeOf, fitting, timed, pair};
 
-pub mod handed;
-pub mod services;
+mod handed;
+mod services;
 pub mod types;
-
-// A fault as the outcome that it is.
-fn outcome_of(fault: Fault) -> Outcome
-    ensures { λ r. ⌜ r ≡ faulted fault ⌝ }
-{
-    match fault {
-        Fault::ProtocolDeviation(deviation) => Outcome::ProtocolDeviation(deviation),
-        Fault::InvalidResponseLength => Outcome::InvalidResponseLength,
-        Fault::BlockLengthOverflow => Outcome::BlockLengthOverflow,
-    }
-}
 
 // The reply at `place` was read as a positive: what its checks say of it, and where the data is that it hands out.
 pub fn check(
@@ -85,8 +72,9 @@ pub fn data<'r>(outcome: Outcome, replies: &'r [u8]) -> &'r [u8]
     part(replies, at, len)
 }
 
+// The number of a call.
 fn numbered(call: Call) -> u8
-    ensures { λ r. ⌜ ((a s : List ℕ) (present : Bool) (d : List ℕ) → r ≡ calls.numbered (callOf call a s present d)) ⌝ }
+    ensures { λ r. ⌜ Whatever call (λ c. r ≡ calls.numbered c) ⌝ }
 {
     match call {
         Call::Request(_, _) => 0,
@@ -109,7 +97,7 @@ fn numbered(call: Call) -> u8
 
 // "They also return the value as a number". Of data above 2^64 - 1, which `check` never hands out, 0.
 pub fn number(call: Call, outcome: Outcome, replies: &[u8]) -> u64
-    ensures { λ r. ⌜ ((a s : List ℕ) (present : Bool) (d : List ℕ) → r ≡ fitting (numberOf (callOf call a s present d) (outcomeOf (now (replies .entry)) outcome))) ⌝ }
+    ensures { λ r. ⌜ Whatever call (λ c. r ≡ fitting (numberOf c (outcomeOf (now (replies .entry)) outcome))) ⌝ }
 {
     let n = numbered(call);
     if n < 11 {
@@ -139,7 +127,7 @@ pub fn timing(
     p2: u32,
     star: u32,
 ) -> Timing
-    ensures { λ r. ⌜ ((a s : List ℕ) (present : Bool) (d : List ℕ) → timed r ≡ timingOf «server_timing» (callOf call a s present d) (outcomeOf (now (replies .entry)) outcome) (given p2 star)) ⌝ }
+    ensures { λ r. ⌜ Whatever call (λ c. timed r ≡ timingOf «server_timing» c (outcomeOf (now (replies .entry)) outcome) (pair p2 star)) ⌝ }
 {
     if numbered(call) != 1 {
         return Timing { p2, star };

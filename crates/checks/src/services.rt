@@ -1,4 +1,6 @@
 // The checks of each service, strict and lenient: document 01's "Checks after the positive, in order". `reply` is the whole reply.
+use exchange::checks::in_strict;
+use exchange::checks::length_error;
 use exchange::error::Fault;
 use exchange::error::Maximum;
 use exchange::error::ProtocolDeviation;
@@ -13,24 +15,17 @@ use wire::u16_at;
 ghost use Prim.Native.Nat.{ℕ, _≤_, _<_, _^_};
 ghost use mathlib.Core.Bool.{_&&_};
 ghost use mathlib.Core.List.{List, [], _∷_};
-ghost use mathlib.Core.Option.{none, some};
+ghost use mathlib.Core.Option.{none};
 ghost use mathlib.Core.Path.{_≡_};
 ghost use lib.Dec.{leb, ltb, eqb};
 ghost use lib.ListN.{length, getD, drop};
 ghost use Rattle.rules.specs.After.{most, bounds, atLeast, strictly, lengthBytes, blockLength, loading, checks};
-ghost use Rattle.rules.specs.Answers.{lengthError, overflow};
+ghost use Rattle.rules.specs.Answers.{overflow};
 ghost use Rattle.rules.specs.Bytes.{value, u16At, same};
 ghost use Rattle.rules.specs.Calls.{given, readMemory, writeMemory, faultCount, routine};
-ghost use Rattle.rules.specs.Checks.{unless, inStrict};
+ghost use Rattle.rules.specs.Checks.{unless};
 ghost use Rattle.exchange.specs.Meaning.{maximumOf, verdictOf, firstOf};
 ghost use Rattle.checks.specs.Answered.{asked};
-
-// A test that counts in strict mode only.
-fn in_strict(strict: bool, test: bool) -> bool
-    ensures { λ r. ⌜ r ≡ inStrict strict test ⌝ }
-{
-    if strict { test } else { true }
-}
 
 fn wide(b: u8) -> usize
     ensures { λ r. ⌜ (r ≡ b) × (r < 256) ⌝ }
@@ -39,7 +34,7 @@ fn wide(b: u8) -> usize
 }
 
 // What is left behind the first `from` bytes.
-fn rest<'a>(bytes: &'a [u8], from: usize) -> &'a [u8]
+pub fn rest<'a>(bytes: &'a [u8], from: usize) -> &'a [u8]
     ensures { λ r. ⌜ now r ≡ drop from (now (bytes .entry)) ⌝ }
 {
     part(bytes, from, bytes.len())
@@ -73,20 +68,6 @@ fn within(len: usize, minimum: usize, maximum: Maximum) -> bool
     }
 }
 
-// "A length error is deviation 8 (minimum, maximum) in strict, the plain length outcome in lenient."
-fn invalid_response_length(strict: bool, minimum: usize, maximum: Maximum) -> Verdict
-    ensures { λ r. ⌜ verdictOf r ≡ some (lengthError strict minimum (maximumOf maximum)) ⌝ }
-{
-    if strict {
-        Verdict::Failed(Fault::ProtocolDeviation(ProtocolDeviation::InvalidResponseLength(
-            minimum,
-            maximum,
-        )))
-    } else {
-        Verdict::Failed(Fault::InvalidResponseLength)
-    }
-}
-
 // "Strict bounds of total length"
 fn validate_response_length(strict: bool, reply: &[u8], minimum: usize, maximum: Maximum) -> Verdict
     ensures { λ r. ⌜ verdictOf r ≡ firstOf (bounds strict minimum (maximumOf maximum) (now (reply .entry)) ∷ []) ⌝ }
@@ -94,7 +75,7 @@ fn validate_response_length(strict: bool, reply: &[u8], minimum: usize, maximum:
     if in_strict(strict, within(reply.len(), minimum, maximum)) {
         Verdict::Passed
     } else {
-        invalid_response_length(strict, minimum, maximum)
+        Verdict::Failed(length_error(strict, minimum, maximum))
     }
 }
 
@@ -108,7 +89,7 @@ fn read_memory_by_address(strict: bool, size: &[u8], reply: &[u8]) -> Verdict
         ));
     }
     if !in_strict(strict, reply.len() >= 2) {
-        return invalid_response_length(strict, 2, Maximum::None);
+        return Verdict::Failed(length_error(strict, 2, Maximum::None));
     }
     Verdict::Passed
 }
@@ -120,7 +101,7 @@ fn write_memory_by_address(strict: bool, address: &[u8], size: &[u8], reply: &[u
 {
     let total = 2 + address.len() + size.len();
     if !in_strict(strict, within(reply.len(), total, Maximum::At(total))) {
-        return invalid_response_length(strict, total, Maximum::At(total));
+        return Verdict::Failed(length_error(strict, total, Maximum::At(total)));
     }
     if !in_strict(
         strict,
@@ -144,10 +125,10 @@ fn identified(strict: bool, minimum: usize, maximum: Maximum, id: u16, reply: &[
     ensures { λ r. ⌜ verdictOf r ≡ firstOf (bounds strict minimum (maximumOf maximum) (now (reply .entry)) ∷ atLeast strict 3 (now (reply .entry)) ∷ strictly strict (eqb (u16At (now (reply .entry)) 1) id) 5 ∷ []) ⌝ }
 {
     if !in_strict(strict, within(reply.len(), minimum, maximum)) {
-        return invalid_response_length(strict, minimum, maximum);
+        return Verdict::Failed(length_error(strict, minimum, maximum));
     }
     if reply.len() < 3 {
-        return invalid_response_length(strict, 3, Maximum::None);
+        return Verdict::Failed(length_error(strict, 3, Maximum::None));
     }
     if !in_strict(strict, u16_at(reply, 1) == id) {
         return Verdict::Failed(Fault::ProtocolDeviation(ProtocolDeviation::InvalidDataIdentifier));
@@ -160,10 +141,10 @@ fn read_dtc_information(strict: bool, reply: &[u8]) -> Verdict
     ensures { λ r. ⌜ verdictOf r ≡ firstOf (checks strict (faultCount 0) (now (reply .entry))) ⌝ }
 {
     if reply.len() < 6 {
-        return invalid_response_length(strict, 6, Maximum::At(6));
+        return Verdict::Failed(length_error(strict, 6, Maximum::At(6)));
     }
     if !in_strict(strict, reply.len() == 6) {
-        return invalid_response_length(strict, 6, Maximum::At(6));
+        return Verdict::Failed(length_error(strict, 6, Maximum::At(6)));
     }
     Verdict::Passed
 }
@@ -173,7 +154,7 @@ fn routine_control(strict: bool, id: u16, reply: &[u8]) -> Verdict
     ensures { λ r. ⌜ verdictOf r ≡ firstOf (checks strict (routine 0 id none) (now (reply .entry))) ⌝ }
 {
     if reply.len() < 4 {
-        return invalid_response_length(strict, 4, Maximum::None);
+        return Verdict::Failed(length_error(strict, 4, Maximum::None));
     }
     if !in_strict(strict, u16_at(reply, 2) == id) {
         return Verdict::Failed(Fault::ProtocolDeviation(
@@ -188,10 +169,10 @@ fn transfer_data(strict: bool, minimum: usize, counter: u8, reply: &[u8]) -> Ver
     ensures { λ r. ⌜ verdictOf r ≡ firstOf (bounds strict minimum none (now (reply .entry)) ∷ atLeast strict 2 (now (reply .entry)) ∷ strictly strict (eqb (getD (now (reply .entry)) 1 0) counter) 7 ∷ []) ⌝ }
 {
     if !in_strict(strict, within(reply.len(), minimum, Maximum::None)) {
-        return invalid_response_length(strict, minimum, Maximum::None);
+        return Verdict::Failed(length_error(strict, minimum, Maximum::None));
     }
     if reply.len() < 2 {
-        return invalid_response_length(strict, 2, Maximum::None);
+        return Verdict::Failed(length_error(strict, 2, Maximum::None));
     }
     if !in_strict(strict, byte_at(reply, 1) == counter) {
         return Verdict::Failed(Fault::ProtocolDeviation(
@@ -231,7 +212,7 @@ fn request_download_upload(strict: bool, reply: &[u8]) -> Verdict
     ensures { λ r. ⌜ verdictOf r ≡ firstOf (loading strict (now (reply .entry)) (lengthBytes (now (reply .entry))) (value (blockLength (now (reply .entry))))) ⌝ }
 {
     if reply.len() < 2 {
-        return invalid_response_length(strict, 2, Maximum::None);
+        return Verdict::Failed(length_error(strict, 2, Maximum::None));
     }
     if !in_strict(strict, byte_at(reply, 1) % 16 == 0) {
         return Verdict::Failed(Fault::ProtocolDeviation(
@@ -243,10 +224,10 @@ fn request_download_upload(strict: bool, reply: &[u8]) -> Verdict
         return Verdict::Failed(Fault::ProtocolDeviation(ProtocolDeviation::InvalidLengthFormat));
     }
     if reply.len() < n + 2 {
-        return invalid_response_length(strict, n + 2, Maximum::At(n + 2));
+        return Verdict::Failed(length_error(strict, n + 2, Maximum::At(n + 2)));
     }
     if !in_strict(strict, reply.len() <= n + 2) {
-        return invalid_response_length(strict, n + 2, Maximum::At(n + 2));
+        return Verdict::Failed(length_error(strict, n + 2, Maximum::At(n + 2)));
     }
     loaded(strict, part(reply, 2, n))
 }

@@ -1,46 +1,33 @@
-use Rattle.checks.proofs.Answering.{check-failed, check-passed}
+-- `checks::check` meets its contract.
 use borrow.Author.Needs.{needs}
+use Rattle.checks.proofs.Answering.{check-failed, check-passed}
 use Rattle.checks.proofs.check.Statement.{statement}
 use Rattle.checks.proofs.check.Tie as tie
-use Rattle.checks.proofs.check.Reads as reads
-use Rattle.checks.proofs.check.Lts as lts
-use Rattle.checks.proofs.handed.handed.Reads as handed-reads
-use Rattle.checks.proofs.outcome_of.Reads as outcome-of-reads
-use Rattle.checks.proofs.services.verdict.Reads as verdict-reads
-use Rattle.wire.proofs.part.Reads as part-reads
 
--- src/lib.rt:54:57
 part-requires : tie.Need-part-requires
 part-requires c κs = search needs
 
--- src/lib.rt:54:11
 verdict-requires : tie.Need-verdict-requires
 verdict-requires c κs = search needs
 
--- src/lib.rt:55:25
 enum-known-fault : tie.Need-enum-known-fault
 enum-known-fault c = search needs
 
--- src/lib.rt:55:35
 outcome-of-requires : tie.Need-outcome-of-requires
 outcome-of-requires c κs = search needs
 
--- src/lib.rt:56:54
 enum-told : tie.Need-enum-told
 enum-told c = search needs
 
--- src/lib.rt:56:54
 handed-requires : tie.Need-handed-requires
 handed-requires c κs = search needs
 
--- src/lib.rt:41:1
 returns : tie.Need-returns
 returns c =
     let x = (c .before .before .before .before .before .before .before .before .before .args) in
     rw (c .outcome-of .ensures)
     (check-failed (x .strict) (x .call) (x .address .now) (x .size .now) (x .present) (x .replies .now) (x .place) _ (c .before .before .before .before .before .part .ensures) _ (c .before .before .before .before .verdict .ensures) _ (c .before .before .fault .given .1))
 
--- src/lib.rt:41:1
 returns-2 : tie.Need-returns-2
 returns-2 c =
     let x = (c .before .before .before .before .before .before .before .before .args) in

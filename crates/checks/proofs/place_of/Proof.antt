@@ -1,86 +1,65 @@
+-- `checks::place_of` meets its contract.
 use borrow.Author.Needs.{needs}
 use Rattle.checks.proofs.place_of.Statement.{statement}
 use Rattle.checks.proofs.place_of.Tie as tie
-use Rattle.checks.proofs.place_of.Reads as reads
-use Rattle.checks.proofs.place_of.Lts as lts
 
--- src/lib.rt:65:35
 enum-known-outcome : tie.Need-enum-known-outcome
 enum-known-outcome c = search needs
 
--- src/lib.rt:66:32
 enum-told : tie.Need-enum-told
 enum-told c = search needs
 
--- src/lib.rt:67:41
 enum-told-2 : tie.Need-enum-told-2
 enum-told-2 c = search needs
 
--- src/lib.rt:68:29
 enum-told-3 : tie.Need-enum-told-3
 enum-told-3 c = search needs
 
--- src/lib.rt:69:34
 enum-told-4 : tie.Need-enum-told-4
 enum-told-4 c = search needs
 
--- src/lib.rt:70:34
 enum-told-5 : tie.Need-enum-told-5
 enum-told-5 c = search needs
 
--- src/lib.rt:71:42
 enum-told-6 : tie.Need-enum-told-6
 enum-told-6 c = search needs
 
--- src/lib.rt:72:43
 enum-told-7 : tie.Need-enum-told-7
 enum-told-7 c = search needs
 
--- src/lib.rt:73:41
 enum-told-8 : tie.Need-enum-told-8
 enum-told-8 c = search needs
 
--- src/lib.rt:74:32
 enum-told-9 : tie.Need-enum-told-9
 enum-told-9 c = search needs
 
--- src/lib.rt:61:1
 returns : tie.Need-returns
 returns c = search needs
 
--- src/lib.rt:61:1
 returns-2 : tie.Need-returns-2
 returns-2 c = rw (c .enum-told .given .1)
 
--- src/lib.rt:61:1
 returns-3 : tie.Need-returns-3
 returns-3 c = rw (c .enum-told2 .given .1)
 
--- src/lib.rt:61:1
 returns-4 : tie.Need-returns-4
 returns-4 c = rw (c .enum-told3 .given .1)
 
--- src/lib.rt:61:1
 returns-5 : tie.Need-returns-5
 returns-5 c = rw (c .enum-told4 .given .1)
 
--- src/lib.rt:61:1
 returns-6 : tie.Need-returns-6
 returns-6 c = rw (c .enum-told5 .given .1)
 
--- src/lib.rt:61:1
 returns-7 : tie.Need-returns-7
 returns-7 c = rw (c .enum-told6 .given .1)
 
--- src/lib.rt:61:1
 returns-8 : tie.Need-returns-8
 returns-8 c = rw (c .enum-told7 .given .1)
 
--- src/lib.rt:61:1
 returns-9 : tie.Need-returns-9
 returns-9 c = rw (c .enum-told8 .given .1)
 
--- src/lib.rt:61:1
 returns-10 : tie.Need-returns-10
 returns-10 c = rw (c .enum-told9 .given .1)
 

@@ -1,42 +1,31 @@
-use Rattle.checks.proofs.Handing.{handed-nowhere, handed-there}
+-- `checks::handed::handed` meets its contract.
 use native.Mathlib.Omega.{arith}
 use borrow.Author.Needs.{needs}
+use Rattle.checks.proofs.Handing.{handed-nowhere, handed-there}
 use Rattle.checks.proofs.handed.handed.Statement.{statement}
 use Rattle.checks.proofs.handed.handed.Tie as tie
-use Rattle.checks.proofs.handed.handed.Reads as reads
-use Rattle.checks.proofs.handed.handed.Lts as lts
-use Rattle.checks.proofs.handed.hands_out.Reads as hands-out-reads
-use Rattle.wire.proofs.part.Reads as part-reads
 
--- src/handed.rt:114:9
 part-requires : tie.Need-part-requires
 part-requires c κs = search needs
 
--- src/handed.rt:115:9
 hands-out-requires : tie.Need-hands-out-requires
 hands-out-requires c κs = search needs
 
--- src/handed.rt:119:9
 returns : tie.Need-returns
 returns c = handed-nowhere _ _ _ _ (c .before .before .part .ensures) _ (c .before .hands-out .ensures) (omega arith)
 
--- src/handed.rt:121:15
 sub-if2 : tie.Need-sub-if2
 sub-if2 c = search needs
 
--- src/handed.rt:122:9
 returns-2 : tie.Need-returns-2
 returns-2 c = handed-nowhere _ _ _ _ (c .before .before .before .part .ensures) _ (c .before .before .hands-out .ensures) (omega arith)
 
--- src/handed.rt:125:13
 add-t10 : tie.Need-add-t10
 add-t10 c = search needs
 
--- src/handed.rt:126:14
 part-requires-2 : tie.Need-part-requires-2
 part-requires-2 c κs = search needs
 
--- src/handed.rt:109:1
 returns-3 : tie.Need-returns-3
 returns-3 c = handed-there _ _ _ _ (c .before .before .before .before .part .ensures) _ (c .before .before .before .hands-out .ensures) (omega arith) _ (c .part2 .ensures)
 

@@ -1,157 +1,117 @@
-use Rattle.checks.proofs.Handing.{all-behind}
-use borrow.Author.Tests.{eq-eqb, ne-eqb}
+-- `checks::handed::hands_out` meets its contract.
 use borrow.Author.Needs.{needs}
+use borrow.Author.Tests.{eq-eqb, ne-eqb}
+use Rattle.checks.proofs.Handing.{all-behind}
 use Rattle.checks.proofs.handed.hands_out.Statement.{statement}
 use Rattle.checks.proofs.handed.hands_out.Tie as tie
-use Rattle.checks.proofs.handed.hands_out.Reads as reads
-use Rattle.checks.proofs.handed.hands_out.Lts as lts
-use Rattle.checks.proofs.handed.head.Reads as head-reads
-use Rattle.checks.proofs.handed.only.Reads as only-reads
-use Rattle.checks.proofs.services.length_bytes.Reads as length-bytes-reads
 
--- src/handed.rt:48:26
 enum-known-call : tie.Need-enum-known-call
 enum-known-call c = search needs
 
--- src/handed.rt:49:19
 head-requires : tie.Need-head-requires
 head-requires c κs = search needs
 
--- src/handed.rt:54:20
 enum-told : tie.Need-enum-told
 enum-told c = search needs
 
--- src/handed.rt:54:20
 only-requires : tie.Need-only-requires
 only-requires c κs = search needs
 
--- src/handed.rt:58:20
 enum-told-2 : tie.Need-enum-told-2
 enum-told-2 c = search needs
 
--- src/handed.rt:58:20
 only-requires-2 : tie.Need-only-requires-2
 only-requires-2 c κs = search needs
 
--- src/handed.rt:60:30
 enum-known-call-2 : tie.Need-enum-known-call-2
 enum-known-call-2 c = search needs
 
--- src/handed.rt:70:32
 enum-told-3 : tie.Need-enum-told-3
 enum-told-3 c = search needs
 
--- src/handed.rt:71:38
 enum-told-4 : tie.Need-enum-told-4
 enum-told-4 c = search needs
 
--- src/handed.rt:75:39
 enum-told-5 : tie.Need-enum-told-5
 enum-told-5 c = search needs
 
--- src/handed.rt:79:42
 enum-told-6 : tie.Need-enum-told-6
 enum-told-6 c = search needs
 
--- src/handed.rt:83:43
 enum-told-7 : tie.Need-enum-told-7
 enum-told-7 c = search needs
 
--- src/handed.rt:84:40
 enum-told-8 : tie.Need-enum-told-8
 enum-told-8 c = search needs
 
--- src/handed.rt:85:39
 enum-told-9 : tie.Need-enum-told-9
 enum-told-9 c = search needs
 
--- src/handed.rt:91:20
 enum-told-10 : tie.Need-enum-told-10
 enum-told-10 c = search needs
 
--- src/handed.rt:91:20
 length-bytes-requires : tie.Need-length-bytes-requires
 length-bytes-requires c κs = search needs
 
--- src/handed.rt:95:20
 enum-told-11 : tie.Need-enum-told-11
 enum-told-11 c = search needs
 
--- src/handed.rt:95:20
 length-bytes-requires-2 : tie.Need-length-bytes-requires-2
 length-bytes-requires-2 c κs = search needs
 
--- src/handed.rt:97:34
 enum-told-12 : tie.Need-enum-told-12
 enum-told-12 c = search needs
 
--- src/handed.rt:101:38
 enum-told-13 : tie.Need-enum-told-13
 enum-told-13 c = search needs
 
--- src/handed.rt:43:1
 returns : tie.Need-returns
-returns c = record { means = λ a s present d at. rw ((c .before .before .call .given .1), ← (c .head .ensures)) (all-behind (c .head .result) at ((c .before .before .before .before .before .args .reply .now))) }
+returns c = record { means = λ at a s present d. rw ((c .before .before .call .given .1), ← (c .head .ensures)) (all-behind (c .head .result) at ((c .before .before .before .before .before .args .reply .now))) }
 
--- src/handed.rt:43:1
 returns-2 : tie.Need-returns-2
-returns-2 c = record { means = λ a s present d at. rw ((c .before .enum-told .given .1), (c .only .ensures)) }
+returns-2 c = record { means = λ at a s present d. rw ((c .before .enum-told .given .1), (c .only .ensures)) }
 
--- src/handed.rt:43:1
 returns-3 : tie.Need-returns-3
-returns-3 c = record { means = λ a s present d at. rw ((c .before .enum-told2 .given .1), (c .only2 .ensures)) }
+returns-3 c = record { means = λ at a s present d. rw ((c .before .enum-told2 .given .1), (c .only2 .ensures)) }
 
--- src/handed.rt:43:1
 returns-4 : tie.Need-returns-4
-returns-4 c = record { means = λ a s present d at. rw ((c .before .before .call2 .given .1), eq-eqb _ 1 (c .if1 .taken)) (all-behind 2 at ((c .before .before .before .before .before .args .reply .now))) }
+returns-4 c = record { means = λ at a s present d. rw ((c .before .before .call2 .given .1), eq-eqb _ 1 (c .if1 .taken)) (all-behind 2 at ((c .before .before .before .before .before .args .reply .now))) }
 
--- src/handed.rt:43:1
 returns-5 : tie.Need-returns-5
-returns-5 c = record { means = λ a s present d at. rw ((c .before .before .call2 .given .1), ne-eqb _ 1 (c .if1 .left)) }
+returns-5 c = record { means = λ at a s present d. rw ((c .before .before .call2 .given .1), ne-eqb _ 1 (c .if1 .left)) }
 
--- src/handed.rt:43:1
 returns-6 : tie.Need-returns-6
-returns-6 c = record { means = λ a s present d at. rw (c .enum-told3 .given .1) }
+returns-6 c = record { means = λ at a s present d. rw (c .enum-told3 .given .1) }
 
--- src/handed.rt:43:1
 returns-7 : tie.Need-returns-7
-returns-7 c = record { means = λ a s present d at. rw (c .enum-told4 .given .1) (all-behind 1 at ((c .before .before .before .args .reply .now))) }
+returns-7 c = record { means = λ at a s present d. rw (c .enum-told4 .given .1) (all-behind 1 at ((c .before .before .before .args .reply .now))) }
 
--- src/handed.rt:43:1
 returns-8 : tie.Need-returns-8
-returns-8 c = record { means = λ a s present d at. rw (c .enum-told5 .given .1) (all-behind 1 at ((c .before .before .before .args .reply .now))) }
+returns-8 c = record { means = λ at a s present d. rw (c .enum-told5 .given .1) (all-behind 1 at ((c .before .before .before .args .reply .now))) }
 
--- src/handed.rt:43:1
 returns-9 : tie.Need-returns-9
-returns-9 c = record { means = λ a s present d at. rw (c .enum-told6 .given .1) (all-behind 3 at ((c .before .before .before .args .reply .now))) }
+returns-9 c = record { means = λ at a s present d. rw (c .enum-told6 .given .1) (all-behind 3 at ((c .before .before .before .args .reply .now))) }
 
--- src/handed.rt:43:1
 returns-10 : tie.Need-returns-10
-returns-10 c = record { means = λ a s present d at. rw (c .enum-told7 .given .1) }
+returns-10 c = record { means = λ at a s present d. rw (c .enum-told7 .given .1) }
 
--- src/handed.rt:43:1
 returns-11 : tie.Need-returns-11
-returns-11 c = record { means = λ a s present d at. rw (c .enum-told8 .given .1) }
+returns-11 c = record { means = λ at a s present d. rw (c .enum-told8 .given .1) }
 
--- src/handed.rt:43:1
 returns-12 : tie.Need-returns-12
-returns-12 c = record { means = λ a s present d at. rw (c .enum-told9 .given .1) (all-behind 4 at ((c .before .before .before .args .reply .now))) }
+returns-12 c = record { means = λ at a s present d. rw (c .enum-told9 .given .1) (all-behind 4 at ((c .before .before .before .args .reply .now))) }
 
--- src/handed.rt:43:1
 returns-13 : tie.Need-returns-13
-returns-13 c = record { means = λ a s present d at. rw ((c .before .enum-told10 .given .1), (c .length-bytes .ensures .0)) }
+returns-13 c = record { means = λ at a s present d. rw ((c .before .enum-told10 .given .1), (c .length-bytes .ensures .0)) }
 
--- src/handed.rt:43:1
 returns-14 : tie.Need-returns-14
-returns-14 c = record { means = λ a s present d at. rw ((c .before .enum-told11 .given .1), (c .length-bytes2 .ensures .0)) }
+returns-14 c = record { means = λ at a s present d. rw ((c .before .enum-told11 .given .1), (c .length-bytes2 .ensures .0)) }
 
--- src/handed.rt:43:1
 returns-15 : tie.Need-returns-15
-returns-15 c = record { means = λ a s present d at. rw (c .enum-told12 .given .1) (all-behind 2 at ((c .before .before .before .args .reply .now))) }
+returns-15 c = record { means = λ at a s present d. rw (c .enum-told12 .given .1) (all-behind 2 at ((c .before .before .before .args .reply .now))) }
 
--- src/handed.rt:43:1
 returns-16 : tie.Need-returns-16
-returns-16 c = record { means = λ a s present d at. rw (c .enum-told13 .given .1) (all-behind 1 at ((c .before .before .before .args .reply .now))) }
+returns-16 c = record { means = λ at a s present d. rw (c .enum-told13 .given .1) (all-behind 1 at ((c .before .before .before .args .reply .now))) }
 
 pub hands-out-spec : {M : Type 1} → statement M
 hands-out-spec =

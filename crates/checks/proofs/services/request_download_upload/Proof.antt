@@ -1,110 +1,94 @@
-use borrow.Author.Tests.{le-leb, lt-leb, not-true, not-false}
-use mathlib.Core.Path.{sym, _∙_}
+-- `checks::services::request_download_upload` meets its contract.
+use Prim.Native.Nat.{_%_}
+use mathlib.Core.Bool.{true}
+use mathlib.Core.Path.{_≡_, sym, _∙_}
 use borrow.Author.Needs.{needs}
+use borrow.Author.Tests.{le-leb, lt-leb, not-true, not-false}
+use lib.Dec.{ltb, eqb}
+use lib.ListN.{getD}
+use Rattle.rules.specs.After.{lengthBytes}
+use Rattle.rules.specs.Checks.{inStrict}
 use Rattle.checks.proofs.services.request_download_upload.Statement.{statement}
 use Rattle.checks.proofs.services.request_download_upload.Tie as tie
-use Rattle.checks.proofs.services.request_download_upload.Reads as reads
-use Rattle.checks.proofs.services.request_download_upload.Lts as lts
-use Rattle.checks.proofs.services.in_strict.Reads as in-strict-reads
-use Rattle.checks.proofs.services.invalid_response_length.Reads as invalid-response-length-reads
-use Rattle.checks.proofs.services.length_bytes.Reads as length-bytes-reads
-use Rattle.checks.proofs.services.loaded.Reads as loaded-reads
-use Rattle.wire.proofs.byte_at.Reads as byte-at-reads
-use Rattle.wire.proofs.part.Reads as part-reads
 
--- src/services.rt:234:9
-invalid-response-length-requires : tie.Need-invalid-response-length-requires
-invalid-response-length-requires c κs = search needs
+-- What the checks that have passed tell, each in the definition's words.
+nibble-right : (c : tie.Else2) → let x = c .before .before .before .before .before .args in inStrict (x .strict) (eqb (getD (x .reply .now) 1 0 % 16) 0) ≡ true
+nibble-right c = rw (← (c .before .before .byte-at .ensures)) (sym (c .before .in-strict .ensures) ∙ not-false _ (c .if2 .left))
 
--- src/services.rt:234:9
+some-bytes : (c : tie.Else3) → let x = c .before .before .before .before .before .before .before .before .args in inStrict (x .strict) (ltb 0 (lengthBytes (x .reply .now))) ≡ true
+some-bytes c = rw (← (c .before .before .length-bytes .ensures .0)) (sym (c .before .in-strict2 .ensures) ∙ not-false _ (c .if3 .left))
+
+length-error-requires : tie.Need-length-error-requires
+length-error-requires c κs = search needs
+
 returns : tie.Need-returns
-returns c = rw (lt-leb _ _ (c .before .if1 .taken)) (c .invalid-response-length .ensures)
+returns c = rw (lt-leb _ _ (c .before .if1 .taken), (c .length-error .ensures))
 
--- src/services.rt:236:27
 byte-at-requires : tie.Need-byte-at-requires
 byte-at-requires c κs = search needs
 
--- src/services.rt:236:9
 in-strict-requires : tie.Need-in-strict-requires
 in-strict-requires c κs = search needs
 
--- src/services.rt:237:9
 returns-2 : tie.Need-returns-2
 returns-2 c = rw (le-leb _ _ (c .before .before .before .if1 .left), ← (c .before .before .byte-at .ensures), sym (c .before .in-strict .ensures) ∙ not-true _ (c .if2 .taken))
 
--- src/services.rt:241:9
 length-bytes-requires : tie.Need-length-bytes-requires
 length-bytes-requires c κs = search needs
 
--- src/services.rt:242:9
 in-strict-requires-2 : tie.Need-in-strict-requires-2
 in-strict-requires-2 c κs = search needs
 
--- src/services.rt:243:9
 returns-3 : tie.Need-returns-3
-returns-3 c = rw (le-leb _ _ (c .before .before .before .before .before .before .if1 .left), ← (c .before .before .length-bytes .ensures .0), ← (c .before .before .before .before .before .byte-at .ensures), sym (c .before .before .before .before .in-strict .ensures) ∙ not-false _ (c .before .before .before .if2 .left), sym (c .before .in-strict2 .ensures) ∙ not-true _ (c .if3 .taken))
+returns-3 c = rw (le-leb _ _ (c .before .before .before .before .before .before .if1 .left), nibble-right (c .before .before .before), ← (c .before .before .length-bytes .ensures .0), sym (c .before .in-strict2 .ensures) ∙ not-true _ (c .if3 .taken))
 
--- src/services.rt:245:22
 add-if4 : tie.Need-add-if4
 add-if4 c = search needs
 
--- src/services.rt:246:48
-add-invalid-response-length : tie.Need-add-invalid-response-length
-add-invalid-response-length c = search needs
+add-length-error : tie.Need-add-length-error
+add-length-error c = search needs
 
--- src/services.rt:246:67
-add-t17 : tie.Need-add-t17
-add-t17 c = search needs
+add-t19 : tie.Need-add-t19
+add-t19 c = search needs
 
--- src/services.rt:246:9
-invalid-response-length-requires-2 : tie.Need-invalid-response-length-requires-2
-invalid-response-length-requires-2 c κs = search needs
+length-error-requires-2 : tie.Need-length-error-requires-2
+length-error-requires-2 c κs = search needs
 
--- src/services.rt:246:9
 returns-4 : tie.Need-returns-4
-returns-4 c = rw (le-leb _ _ (c .before .before .before .before .before .before .before .before .if1 .left), ← (c .before .before .before .before .length-bytes .ensures .0), ← (c .before .before .before .before .before .before .before .byte-at .ensures), sym (c .before .before .before .before .before .before .in-strict .ensures) ∙ not-false _ (c .before .before .before .before .before .if2 .left), sym (c .before .before .before .in-strict2 .ensures) ∙ not-false _ (c .before .before .if3 .left), lt-leb _ _ (c .before .if4 .taken)) (c .invalid-response-length2 .ensures)
+returns-4 c = rw (le-leb _ _ (c .before .before .before .before .before .before .before .before .if1 .left), nibble-right (c .before .before .before .before .before), some-bytes (c .before .before), ← (c .before .before .before .before .length-bytes .ensures .0), lt-leb _ _ (c .before .if4 .taken), c .length-error2 .ensures)
 
--- src/services.rt:248:42
 add-in-strict : tie.Need-add-in-strict
 add-in-strict c = search needs
 
--- src/services.rt:248:9
 in-strict-requires-3 : tie.Need-in-strict-requires-3
 in-strict-requires-3 c κs = search needs
 
--- src/services.rt:249:48
-add-invalid-response-length-2 : tie.Need-add-invalid-response-length-2
-add-invalid-response-length-2 c = search needs
+add-length-error-2 : tie.Need-add-length-error-2
+add-length-error-2 c = search needs
 
--- src/services.rt:249:67
-add-t20 : tie.Need-add-t20
-add-t20 c = search needs
+add-t23 : tie.Need-add-t23
+add-t23 c = search needs
 
--- src/services.rt:249:9
-invalid-response-length-requires-3 : tie.Need-invalid-response-length-requires-3
-invalid-response-length-requires-3 c κs = search needs
+length-error-requires-3 : tie.Need-length-error-requires-3
+length-error-requires-3 c κs = search needs
 
--- src/services.rt:249:9
 returns-5 : tie.Need-returns-5
-returns-5 c = rw (le-leb _ _ (c .before .before .before .before .before .before .before .before .before .before .if1 .left), ← (c .before .before .before .before .before .before .length-bytes .ensures .0), ← (c .before .before .before .before .before .before .before .before .before .byte-at .ensures), sym (c .before .before .before .before .before .before .before .before .in-strict .ensures) ∙ not-false _ (c .before .before .before .before .before .before .before .if2 .left), sym (c .before .before .before .before .before .in-strict2 .ensures) ∙ not-false _ (c .before .before .before .before .if3 .left), le-leb _ _ (c .before .before .before .if4 .left), sym (c .before .before .in-strict3 .ensures) ∙ not-true _ (c .before .if5 .taken)) (c .invalid-response-length3 .ensures)
+returns-5 c = rw (le-leb _ _ (c .before .before .before .before .before .before .before .before .before .before .if1 .left), nibble-right (c .before .before .before .before .before .before .before), some-bytes (c .before .before .before .before), ← (c .before .before .before .before .before .before .length-bytes .ensures .0), le-leb _ _ (c .before .before .before .if4 .left), sym (c .before .before .in-strict3 .ensures) ∙ not-true _ (c .before .if5 .taken), c .length-error3 .ensures)
 
--- src/services.rt:251:20
 part-requires : tie.Need-part-requires
 part-requires c κs = search needs
 
--- src/services.rt:251:5
 loaded-requires : tie.Need-loaded-requires
 loaded-requires c κs = search needs
 
--- src/services.rt:230:1
 returns-6 : tie.Need-returns-6
-returns-6 c = rw (le-leb _ _ (c .before .before .before .before .before .before .before .before .before .before .before .if1 .left), ← (c .before .before .before .before .before .before .before .length-bytes .ensures .0), ← (c .before .before .before .before .before .before .before .before .before .before .byte-at .ensures), sym (c .before .before .before .before .before .before .before .before .before .in-strict .ensures) ∙ not-false _ (c .before .before .before .before .before .before .before .before .if2 .left), sym (c .before .before .before .before .before .before .in-strict2 .ensures) ∙ not-false _ (c .before .before .before .before .before .if3 .left), le-leb _ _ (c .before .before .before .before .if4 .left), sym (c .before .before .before .in-strict3 .ensures) ∙ not-false _ (c .before .before .if5 .left), ← (c .before .part .ensures)) (c .loaded .ensures)
+returns-6 c = rw (le-leb _ _ (c .before .before .before .before .before .before .before .before .before .before .before .if1 .left), nibble-right (c .before .before .before .before .before .before .before .before), some-bytes (c .before .before .before .before .before), ← (c .before .before .before .before .before .before .before .length-bytes .ensures .0), le-leb _ _ (c .before .before .before .before .if4 .left), sym (c .before .before .before .in-strict3 .ensures) ∙ not-false _ (c .before .before .if5 .left), ← (c .before .part .ensures)) (c .loaded .ensures)
 
 pub request-download-upload-spec : {M : Type 1} → statement M
 request-download-upload-spec =
     tie.close
     (tie.spec
-    invalid-response-length-requires
+    length-error-requires
     returns
     byte-at-requires
     in-strict-requires
@@ -113,15 +97,15 @@ request-download-upload-spec =
     in-strict-requires-2
     returns-3
     add-if4
-    add-invalid-response-length
-    add-t17
-    invalid-response-length-requires-2
+    add-length-error
+    add-t19
+    length-error-requires-2
     returns-4
     add-in-strict
     in-strict-requires-3
-    add-invalid-response-length-2
-    add-t20
-    invalid-response-length-requires-3
+    add-length-error-2
+    add-t23
+    length-error-requires-3
     returns-5
     part-requires
     loaded-requires

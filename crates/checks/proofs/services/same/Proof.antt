@@ -1,16 +1,15 @@
-use Rattle.checks.proofs.Parts.{same-step, same-end, same-lengths}
-use Rattle.rules.specs.Bytes.{same}
-use lib.ListN.{length, drop}
-use borrow.Author.Tests.{eq-eqb, ne-eqb}
-use mathlib.Core.Path.{_≡_, refl, sym, _∙_}
-use mathlib.Core.List.{List}
-use mathlib.Core.Bool.{true, false}
-use native.Mathlib.Omega.{arith}
+-- `checks::services::same` meets its contract.
 use Prim.Native.Nat.{ℕ, _-_, _≤_}
+use native.Mathlib.Omega.{arith}
+use mathlib.Core.Bool.{true, false}
+use mathlib.Core.List.{List}
+use mathlib.Core.Path.{_≡_, refl, sym, _∙_}
+use borrow.Author.Tests.{eq-eqb, ne-eqb}
+use lib.ListN.{length, drop}
+use Rattle.rules.specs.Bytes.{same}
+use Rattle.checks.proofs.Parts.{same-step, same-end, same-lengths}
 use Rattle.checks.proofs.services.same.Statement.{statement}
 use Rattle.checks.proofs.services.same.Tie as tie
-use Rattle.checks.proofs.services.same.Reads as reads
-use Rattle.checks.proofs.services.same.Lts as lts
 
 record Held (a b : List ℕ) (i : ℕ) : Type 0 where
   small : i ≤ length a
@@ -22,41 +21,32 @@ Inv-loop a b i₀ i = Held a b i
 abbrev μ-loop : tie.MeasureT-loop
 μ-loop a b i₀ i = length a - i
 
--- src/services.rt:52:9
 returns : tie.Need-returns Inv-loop μ-loop
-returns c = sym (same-lengths ((c .before .args .a .now)) ((c .before .args .b .now)) (c .if1 .taken))
+returns c = sym (same-lengths (c .before .args .a .now) (c .before .args .b .now) (c .if1 .taken))
 
--- src/services.rt:55:5
 loop-holds : tie.Need-loop-holds Inv-loop μ-loop
 loop-holds c = record { small = omega arith; left = refl }
 
--- src/services.rt:56:12
 shared-slice-read-if2 : tie.Need-shared-slice-read-if2 Inv-loop μ-loop
 shared-slice-read-if2 c = omega arith
 
--- src/services.rt:56:20
 shared-slice-read-if2-2 : tie.Need-shared-slice-read-if2-2 Inv-loop μ-loop
 shared-slice-read-if2-2 c = omega arith
 
--- src/services.rt:57:13
 returns-2 : tie.Need-returns-2 Inv-loop μ-loop
-returns-2 c = sym (same-step (c .before .before .before .before .loop .i) ((c .before .before .before .before .before .before .args .a .now)) ((c .before .before .before .before .before .before .args .b .now)) false (ne-eqb _ _ (c .if2 .taken)) (omega arith) (omega arith)) ∙ (c .before .before .before .before .loop .inv .left)
+returns-2 c = sym (same-step (c .before .before .before .before .loop .i) (c .before .before .before .before .before .before .args .a .now) (c .before .before .before .before .before .before .args .b .now) false (ne-eqb _ _ (c .if2 .taken)) (omega arith) (omega arith)) ∙ (c .before .before .before .before .loop .inv .left)
 
--- src/services.rt:59:9
 add-i : tie.Need-add-i Inv-loop μ-loop
 add-i c = omega arith
 
--- src/services.rt:55:5
 loop-less : tie.Need-loop-less Inv-loop μ-loop
 loop-less c = omega arith
 
--- src/services.rt:55:5
 loop-again : tie.Need-loop-again Inv-loop μ-loop
-loop-again c = record { small = omega arith; left = sym (same-step (c .before .before .before .before .loop .i) ((c .before .before .before .before .before .before .args .a .now)) ((c .before .before .before .before .before .before .args .b .now)) true (eq-eqb _ _ (c .if2 .left)) (omega arith) (omega arith)) ∙ (c .before .before .before .before .loop .inv .left) }
+loop-again c = record { small = omega arith; left = sym (same-step (c .before .before .before .before .loop .i) (c .before .before .before .before .before .before .args .a .now) (c .before .before .before .before .before .before .args .b .now) true (eq-eqb _ _ (c .if2 .left)) (omega arith) (omega arith)) ∙ (c .before .before .before .before .loop .inv .left) }
 
--- src/services.rt:48:1
 returns-3 : tie.Need-returns-3 Inv-loop μ-loop
-returns-3 c = sym (same-end (c .before .loop .i) ((c .before .before .before .args .a .now)) ((c .before .before .before .args .b .now)) (omega arith) (omega arith)) ∙ (c .before .loop .inv .left)
+returns-3 c = sym (same-end (c .before .loop .i) (c .before .before .before .args .a .now) (c .before .before .before .args .b .now) (omega arith) (omega arith)) ∙ (c .before .loop .inv .left)
 
 pub same-spec : {M : Type 1} → statement M
 same-spec =

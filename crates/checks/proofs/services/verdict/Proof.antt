@@ -1,223 +1,162 @@
-use lib.ListN.{length, length-take}
-use borrow.Author.Tests.{eq-eqb, ne-eqb}
-use mathlib.Core.Path.{_∙_, ap}
+-- `checks::services::verdict` meets its contract.
 use native.Mathlib.Omega.{arith}
+use mathlib.Core.Path.{_∙_, ap}
 use borrow.Author.Needs.{needs}
+use borrow.Author.Tests.{eq-eqb, ne-eqb}
+use lib.ListN.{length, length-take}
 use Rattle.checks.proofs.services.verdict.Statement.{statement}
 use Rattle.checks.proofs.services.verdict.Tie as tie
-use Rattle.checks.proofs.services.verdict.Reads as reads
-use Rattle.checks.proofs.services.verdict.Lts as lts
-use Rattle.checks.proofs.services.identified.Reads as identified-reads
-use Rattle.checks.proofs.services.read_dtc_information.Reads as read-dtc-information-reads
-use Rattle.checks.proofs.services.read_memory_by_address.Reads as read-memory-by-address-reads
-use Rattle.checks.proofs.services.request_download_upload.Reads as request-download-upload-reads
-use Rattle.checks.proofs.services.routine_control.Reads as routine-control-reads
-use Rattle.checks.proofs.services.transfer_data.Reads as transfer-data-reads
-use Rattle.checks.proofs.services.validate_response_length.Reads as validate-response-length-reads
-use Rattle.checks.proofs.services.write_memory_by_address.Reads as write-memory-by-address-reads
-use Rattle.wire.proofs.part.Reads as part-reads
 
--- src/services.rt:265:9
 part-requires : tie.Need-part-requires
 part-requires c κs = search needs
 
--- src/services.rt:266:9
 part-requires-2 : tie.Need-part-requires-2
 part-requires-2 c κs = search needs
 
--- src/services.rt:268:32
 enum-told : tie.Need-enum-told
 enum-told c = search needs
 
--- src/services.rt:273:13
 enum-told-2 : tie.Need-enum-told-2
 enum-told-2 c = search needs
 
--- src/services.rt:269:46
 validate-response-length-requires : tie.Need-validate-response-length-requires
 validate-response-length-requires c κs = search needs
 
--- src/services.rt:275:24
 enum-known-call : tie.Need-enum-known-call
 enum-known-call c = search needs
 
--- src/services.rt:277:17
 validate-response-length-requires-2 : tie.Need-validate-response-length-requires-2
 validate-response-length-requires-2 c κs = search needs
 
--- src/services.rt:279:17
 validate-response-length-requires-3 : tie.Need-validate-response-length-requires-3
 validate-response-length-requires-3 c κs = search needs
 
--- src/services.rt:282:30
 enum-known-call-2 : tie.Need-enum-known-call-2
 enum-known-call-2 c = search needs
 
--- src/services.rt:284:17
 validate-response-length-requires-4 : tie.Need-validate-response-length-requires-4
 validate-response-length-requires-4 c κs = search needs
 
--- src/services.rt:286:17
 validate-response-length-requires-5 : tie.Need-validate-response-length-requires-5
 validate-response-length-requires-5 c κs = search needs
 
--- src/services.rt:289:75
 enum-told-3 : tie.Need-enum-told-3
 enum-told-3 c = search needs
 
--- src/services.rt:289:32
 validate-response-length-requires-6 : tie.Need-validate-response-length-requires-6
 validate-response-length-requires-6 c κs = search needs
 
--- src/services.rt:290:38
 enum-told-4 : tie.Need-enum-told-4
 enum-told-4 c = search needs
 
--- src/services.rt:290:38
 read-memory-by-address-requires : tie.Need-read-memory-by-address-requires
 read-memory-by-address-requires c κs = search needs
 
--- src/services.rt:291:39
 enum-told-5 : tie.Need-enum-told-5
 enum-told-5 c = search needs
 
--- src/services.rt:291:39
 write-memory-by-address-requires : tie.Need-write-memory-by-address-requires
 write-memory-by-address-requires c κs = omega (arith, ap length (c .before .before .before .part .ensures) ∙ length-take 15 ((c .before .before .before .before .before .before .before .args .address .now)), ap length (c .before .before .part2 .ensures) ∙ length-take 15 ((c .before .before .before .before .before .before .before .args .size .now)))
 
--- src/services.rt:292:36
 enum-known-call-3 : tie.Need-enum-known-call-3
 enum-known-call-3 c = search needs
 
--- src/services.rt:292:43
 identified-requires : tie.Need-identified-requires
 identified-requires c κs = search needs
 
--- src/services.rt:293:37
 enum-known-call-4 : tie.Need-enum-known-call-4
 enum-known-call-4 c = search needs
 
--- src/services.rt:293:44
 identified-requires-2 : tie.Need-identified-requires-2
 identified-requires-2 c κs = search needs
 
--- src/services.rt:294:40
 enum-told-6 : tie.Need-enum-told-6
 enum-told-6 c = search needs
 
--- src/services.rt:294:40
 read-dtc-information-requires : tie.Need-read-dtc-information-requires
 read-dtc-information-requires c κs = search needs
 
--- src/services.rt:295:33
 enum-known-call-5 : tie.Need-enum-known-call-5
 enum-known-call-5 c = search needs
 
--- src/services.rt:295:40
 routine-control-requires : tie.Need-routine-control-requires
 routine-control-requires c κs = search needs
 
--- src/services.rt:296:40
 enum-told-7 : tie.Need-enum-told-7
 enum-told-7 c = search needs
 
--- src/services.rt:296:40
 request-download-upload-requires : tie.Need-request-download-upload-requires
 request-download-upload-requires c κs = search needs
 
--- src/services.rt:297:38
 enum-told-8 : tie.Need-enum-told-8
 enum-told-8 c = search needs
 
--- src/services.rt:297:38
 request-download-upload-requires-2 : tie.Need-request-download-upload-requires-2
 request-download-upload-requires-2 c κs = search needs
 
--- src/services.rt:298:28
 enum-known-call-6 : tie.Need-enum-known-call-6
 enum-known-call-6 c = search needs
 
--- src/services.rt:300:17
 transfer-data-requires : tie.Need-transfer-data-requires
 transfer-data-requires c κs = search needs
 
--- src/services.rt:302:17
 transfer-data-requires-2 : tie.Need-transfer-data-requires-2
 transfer-data-requires-2 c κs = search needs
 
--- src/services.rt:305:38
 enum-told-9 : tie.Need-enum-told-9
 enum-told-9 c = search needs
 
--- src/services.rt:255:1
 returns : tie.Need-returns
 returns c = λ d. rw (c .enum-told .given .1)
 
--- src/services.rt:255:1
 returns-2 : tie.Need-returns-2
 returns-2 c = λ d. rw (c .before .enum-told2 .given .1) (c .validate-response-length .ensures)
 
--- src/services.rt:255:1
 returns-3 : tie.Need-returns-3
 returns-3 c = λ d. rw ((c .before .before .before .call .given .1), eq-eqb _ 4 (c .before .if1 .taken)) (c .validate-response-length2 .ensures)
 
--- src/services.rt:255:1
 returns-4 : tie.Need-returns-4
 returns-4 c = λ d. rw ((c .before .before .before .call .given .1), ne-eqb _ 4 (c .before .if1 .left)) (c .validate-response-length3 .ensures)
 
--- src/services.rt:255:1
 returns-5 : tie.Need-returns-5
 returns-5 c = λ d. rw ((c .before .before .before .call2 .given .1), eq-eqb _ 1 (c .before .if2 .taken)) (c .validate-response-length4 .ensures)
 
--- src/services.rt:255:1
 returns-6 : tie.Need-returns-6
 returns-6 c = λ d. rw ((c .before .before .before .call2 .given .1), ne-eqb _ 1 (c .before .if2 .left)) (c .validate-response-length5 .ensures)
 
--- src/services.rt:255:1
 returns-7 : tie.Need-returns-7
 returns-7 c = λ d. rw (c .before .enum-told3 .given .1) (c .validate-response-length6 .ensures)
 
--- src/services.rt:255:1
 returns-8 : tie.Need-returns-8
 returns-8 c = λ d. rw ((c .before .enum-told4 .given .1), ← (c .before .before .before .part2 .ensures)) (c .read-memory-by-address .ensures)
 
--- src/services.rt:255:1
 returns-9 : tie.Need-returns-9
 returns-9 c = λ d. rw ((c .before .enum-told5 .given .1), ← (c .before .before .before .before .part .ensures), ← (c .before .before .before .part2 .ensures)) (c .write-memory-by-address .ensures)
 
--- src/services.rt:255:1
 returns-10 : tie.Need-returns-10
 returns-10 c = λ d. rw (c .before .before .call3 .given .1) (c .identified .ensures)
 
--- src/services.rt:255:1
 returns-11 : tie.Need-returns-11
 returns-11 c = λ d. rw (c .before .before .call4 .given .1) (c .identified2 .ensures)
 
--- src/services.rt:255:1
 returns-12 : tie.Need-returns-12
 returns-12 c = λ d. rw (c .before .enum-told6 .given .1) (c .read-dtc-information .ensures)
 
--- src/services.rt:255:1
 returns-13 : tie.Need-returns-13
 returns-13 c = λ d. rw (c .before .before .call5 .given .1) (c .routine-control .ensures)
 
--- src/services.rt:255:1
 returns-14 : tie.Need-returns-14
 returns-14 c = λ d. rw (c .before .enum-told7 .given .1) (c .request-download-upload .ensures)
 
--- src/services.rt:255:1
 returns-15 : tie.Need-returns-15
 returns-15 c = λ d. rw (c .before .enum-told8 .given .1) (c .request-download-upload2 .ensures)
 
--- src/services.rt:255:1
 returns-16 : tie.Need-returns-16
 returns-16 c = λ d. rw ((c .before .before .before .call6 .given .1), (c .before .if3 .taken)) (c .transfer-data .ensures)
 
--- src/services.rt:255:1
 returns-17 : tie.Need-returns-17
 returns-17 c = λ d. rw ((c .before .before .before .call6 .given .1), (c .before .if3 .left)) (c .transfer-data2 .ensures)
 
--- src/services.rt:255:1
 returns-18 : tie.Need-returns-18
 returns-18 c = λ d. rw (c .enum-told9 .given .1)
 

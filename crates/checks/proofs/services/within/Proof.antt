@@ -1,27 +1,21 @@
-use borrow.Author.Tests.{le-leb, lt-leb}
+-- `checks::services::within` meets its contract.
 use borrow.Author.Needs.{needs}
+use borrow.Author.Tests.{le-leb, lt-leb}
 use Rattle.checks.proofs.services.within.Statement.{statement}
 use Rattle.checks.proofs.services.within.Tie as tie
-use Rattle.checks.proofs.services.within.Reads as reads
-use Rattle.checks.proofs.services.within.Lts as lts
 
--- src/services.rt:68:9
 returns : tie.Need-returns
 returns c = rw (lt-leb _ _ (c .if1 .taken))
 
--- src/services.rt:71:26
 enum-told : tie.Need-enum-told
 enum-told c = search needs
 
--- src/services.rt:72:21
 enum-known-maximum : tie.Need-enum-known-maximum
 enum-known-maximum c = search needs
 
--- src/services.rt:64:1
 returns-2 : tie.Need-returns-2
 returns-2 c = rw ((c .enum-told .given .1), le-leb _ _ (c .before .before .if1 .left))
 
--- src/services.rt:64:1
 returns-3 : tie.Need-returns-3
 returns-3 c = rw ((c .before .maximum .given .1), le-leb _ _ (c .before .before .before .if1 .left))
 
