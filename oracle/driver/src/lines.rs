@@ -1,0 +1,89 @@
+//! The line of each log of a file, from the original wherever the log has a counterpart there.
+
+use crate::model::{Call, Case, Data, Observed, Outcome};
+use crate::original::Original;
+use crate::{direct, log};
+
+/// Where a line comes from.
+#[derive(Debug, Clone, Copy, PartialEq, Eq)]
+pub enum Source {
+    Original,
+    /// Refusals 8 to 10, which the original does not have.
+    NoCounterpart(u8),
+    BadLog,
+}
+
+/// The line of a log.
+pub fn line_of(original: &mut Original, log: &[u8]) -> (String, Source) {
+    let Some(case) = log::read(log) else {
+        return (log::BADLOG.to_string(), Source::BadLog);
+    };
+    match direct::refusal(&case, 4095) {
+        Some(number @ 8..=10) => (
+            log::line(&direct::run(&case)),
+            Source::NoCounterpart(number),
+        ),
+        _ => {
+            let mut observed = original.run(&case);
+            hand_out(&case, &mut observed);
+            (log::line(&observed), Source::Original)
+        }
+    }
+}
+
+/// The data of calls 6, 11 and 12, which the original keeps to itself: "all after the SID" and "the n" of the reply that
+/// it read last.
+pub fn hand_out(case: &Case, observed: &mut Observed) {
+    if observed.outcome != Outcome::Positive(Data::NotHandedOut) {
+        return;
+    }
+    let event = case.events[observed.events - 1];
+    let reply = &case.replies[event.offset as usize..][..event.length as usize];
+    let data = match case.call {
+        Call::WriteMemory { .. } => &reply[1..],
+        _ => &reply[2..2 + reply[1] as usize / 16],
+    };
+    observed.outcome = Outcome::Positive(Data::Bytes(data.to_vec()));
+}
+
+/// Prints the line of each log of a file, or compares it with the expected one.
+pub fn lines(logs: &str, expected: Option<&str>) -> Result<usize, String> {
+    let file = std::fs::read(logs).map_err(|error| format!("{logs} cannot be read: {error}."))?;
+    let logs = log::split(&file)?;
+    let mut original = Original::default();
+    let Some(expected) = expected else {
+        for log in logs {
+            println!("{}", line_of(&mut original, log).0);
+        }
+        return Ok(0);
+    };
+    let wanted = std::fs::read_to_string(expected)
+        .map_err(|error| format!("{expected} cannot be read: {error}."))?;
+    let wanted: Vec<&str> = wanted.lines().collect();
+    if wanted.len() != logs.len() {
+        return Err(format!(
+            "There are {} logs and {} expected lines.",
+            logs.len(),
+            wanted.len()
+        ));
+    }
+    let (mut by_original, mut refused, mut bad, mut failed) = (0, 0, 0, 0);
+    for (at, (log, wanted)) in logs.iter().zip(&wanted).enumerate() {
+        let (line, source) = line_of(&mut original, log);
+        match source {
+            Source::Original => by_original += 1,
+            Source::NoCounterpart(_) => refused += 1,
+            Source::BadLog => bad += 1,
+        }
+        if line != *wanted {
+            failed += 1;
+            println!("log {at}: expected {wanted}\n  got {line} ({source:?})");
+        }
+    }
+    println!(
+        "{by_original} lines are the original's; {refused} logs with refusal 8 or 10 and {bad} bad logs have no \
+         counterpart there, and their lines are document 01's."
+    );
+    println!("{} passed, {failed} failed", logs.len() - failed);
+    Ok(failed)
+}

@@ -1,0 +1,297 @@
+//! Document 01's log: from a case to its bytes and back, and from an observation to its line. A file of logs has each
+//! log after its length as u32, big-endian.
+
+use crate::model::{Call, Case, Data, Event, Memory, Observed, Outcome, Setting};
+use std::fmt::Write;
+
+const HEADER: usize = 36;
+const EVENT: usize = 10;
+
+pub const BADLOG: &str = "badlog 0 0 0 -";
+
+// Flags.
+const STRICT: u8 = 1;
+const SERVER_TIMING: u8 = 2;
+const QUIET: u8 = 4;
+const LIMIT: u8 = 8;
+const SUB: u8 = 16;
+const DATA: u8 = 32;
+
+fn u16_at(bytes: &[u8], at: usize) -> u16 {
+    u16::from_be_bytes([bytes[at], bytes[at + 1]])
+}
+
+fn u32_at(bytes: &[u8], at: usize) -> u32 {
+    u32::from_be_bytes([bytes[at], bytes[at + 1], bytes[at + 2], bytes[at + 3]])
+}
+
+/// What a call uses of the header: the largest value; whether sub and the two lengths are used; data forbidden (0),
+/// allowed (1) or needed (2). Call 0 uses sub with flag 16 only.
+const USES: [(u16, bool, bool, u8); 15] = [
+    (255, false, false, 1),
+    (0, true, false, 0),
+    (0, true, false, 0),
+    (0, true, false, 1),
+    (0, false, false, 0),
+    (0, false, true, 0),
+    (0, false, true, 2),
+    (65535, false, false, 0),
+    (65535, false, false, 2),
+    (255, false, false, 0),
+    (65535, true, false, 1),
+    (65535, false, true, 0),
+    (65535, false, true, 0),
+    (255, false, false, 1),
+    (0, false, false, 1),
+];
+
+/// The case that a log says, or none where its layout is bad.
+pub fn read(log: &[u8]) -> Option<Case> {
+    if log.len() < HEADER || u16_at(log, 0) != 1 || log[2] > 14 {
+        return None;
+    }
+    let (number, flags) = (log[2], log[3]);
+    let flag = |weight| flags & weight != 0;
+    let (value, sub, address_length, size_length) = (u16_at(log, 4), log[6], log[7], log[8]);
+    let (largest_value, uses_sub, uses_lengths, data_rule) = USES[number as usize];
+    let lengths = address_length as usize + size_length as usize;
+    let (argument_count, arguments_at) = (u16_at(log, 10) as usize, u16_at(log, 12) as usize);
+    let (event_count, events_at) = (u16_at(log, 14) as usize, u16_at(log, 16) as usize);
+    let (reply_count, replies_at) = (u16_at(log, 18) as usize, u16_at(log, 20) as usize);
+    let total = u16_at(log, 22) as usize;
+    let limit = u32_at(log, 32);
+
+    let fields = flags < 64
+        && (number == 0 || !flag(SUB))
+        && (data_rule > 0 || !flag(DATA))
+        && (data_rule < 2 || flag(DATA))
+        && value <= largest_value
+        && (uses_sub || flag(SUB) || sub == 0)
+        && (uses_lengths || lengths == 0)
+        && log[9] == 0
+        && (flag(LIMIT) || limit == 0)
+        && argument_count >= lengths
+        && (flag(DATA) || argument_count == lengths);
+    let areas = arguments_at == HEADER
+        && events_at == arguments_at + argument_count
+        && replies_at == events_at + event_count * EVENT
+        && total == replies_at + reply_count
+        && total == log.len();
+    if !fields || !areas {
+        return None;
+    }
+
+    let mut events = Vec::with_capacity(event_count);
+    for entry in log[events_at..replies_at].chunks_exact(EVENT) {
+        let event = Event {
+            time: u32_at(entry, 0),
+            kind: u16_at(entry, 4),
+            offset: u16_at(entry, 6),
+            length: u16_at(entry, 8),
+        };
+        let unused_are_zero = match event.kind {
+            1 | 2 => event.offset == 0 && event.length == 0,
+            3 => event.offset == 0,
+            _ => true,
+        };
+        if !unused_are_zero {
+            return None;
+        }
+        events.push(event);
+    }
+
+    let arguments = &log[arguments_at..events_at];
+    let (address, rest) = arguments.split_at(address_length as usize);
+    let (size, rest) = rest.split_at(size_length as usize);
+    let data = flag(DATA).then(|| rest.to_vec());
+    let memory = Memory::Bytes {
+        address: address.to_vec(),
+        size: size.to_vec(),
+    };
+    let [high, low] = value.to_be_bytes();
+    let call = match number {
+        0 => Call::Request {
+            sid: low,
+            sub: flag(SUB).then_some(sub),
+            data,
+        },
+        1 => Call::Session { sub },
+        2 => Call::Reset { sub },
+        3 => Call::Security { sub, data },
+        4 => Call::TesterPresent,
+        5 => Call::ReadMemory { memory },
+        6 => Call::WriteMemory {
+            memory,
+            data: data.unwrap_or_default(),
+        },
+        7 => Call::ReadIdentifier { id: value },
+        8 => Call::WriteIdentifier {
+            id: value,
+            data: data.unwrap_or_default(),
+        },
+        9 => Call::FaultCount { mask: low },
+        10 => Call::Routine {
+            sub,
+            id: value,
+            data,
+        },
+        11 => Call::Download {
+            compression: high,
+            encryption: low,
+            memory,
+        },
+        12 => Call::Upload {
+            compression: high,
+            encryption: low,
+            memory,
+        },
+        13 => Call::Transfer { counter: low, data },
+        _ => Call::TransferExit { data },
+    };
+    Some(Case {
+        call,
+        setting: Setting {
+            strict: flag(STRICT),
+            server_timing: flag(SERVER_TIMING),
+            quiet: flag(QUIET),
+            p2: u32_at(log, 24),
+            p2_star: u32_at(log, 28),
+            limit: flag(LIMIT).then_some(limit),
+        },
+        events,
+        replies: log[replies_at..].to_vec(),
+    })
+}
+
+/// The log that says a case, or none where no log can: an `alfid` form, or an area too long for its field.
+pub fn write(case: &Case) -> Option<Vec<u8>> {
+    let setting = &case.setting;
+    let empty: &[u8] = &[];
+    let (address, size) = match case.call.memory() {
+        Some(Memory::Bytes { address, size }) => (&address[..], &size[..]),
+        Some(Memory::Alfid { .. }) => return None,
+        None => (empty, empty),
+    };
+    let data = case.call.data();
+    let value = match &case.call {
+        Call::Request { sid: byte, .. }
+        | Call::FaultCount { mask: byte }
+        | Call::Transfer { counter: byte, .. } => (*byte).into(),
+        Call::ReadIdentifier { id }
+        | Call::WriteIdentifier { id, .. }
+        | Call::Routine { id, .. } => *id,
+        Call::Download {
+            compression,
+            encryption,
+            ..
+        }
+        | Call::Upload {
+            compression,
+            encryption,
+            ..
+        } => u16::from_be_bytes([*compression, *encryption]),
+        _ => 0,
+    };
+    let fixed_sub = matches!(case.call, Call::TesterPresent | Call::FaultCount { .. });
+    let sub = if fixed_sub { None } else { case.call.sub() };
+    let mut flags = 0;
+    for (weight, set) in [
+        (STRICT, setting.strict),
+        (SERVER_TIMING, setting.server_timing),
+        (QUIET, setting.quiet),
+        (LIMIT, setting.limit.is_some()),
+        (SUB, case.call.number() == 0 && sub.is_some()),
+        (DATA, data.is_some()),
+    ] {
+        flags |= if set { weight } else { 0 };
+    }
+    let arguments = address.len() + size.len() + data.map_or(0, <[u8]>::len);
+    let events_at = HEADER + arguments;
+    let replies_at = events_at + case.events.len() * EVENT;
+    let total = replies_at + case.replies.len();
+
+    let mut log = Vec::with_capacity(total);
+    log.extend([0, 1, case.call.number(), flags]);
+    log.extend(value.to_be_bytes());
+    log.push(sub.unwrap_or(0));
+    log.push(address.len().try_into().ok()?);
+    log.push(size.len().try_into().ok()?);
+    log.push(0);
+    for number in [
+        arguments,
+        HEADER,
+        case.events.len(),
+        events_at,
+        case.replies.len(),
+        replies_at,
+        total,
+    ] {
+        log.extend(u16::try_from(number).ok()?.to_be_bytes());
+    }
+    for time in [setting.p2, setting.p2_star, setting.limit.unwrap_or(0)] {
+        log.extend(time.to_be_bytes());
+    }
+    log.extend(address);
+    log.extend(size);
+    log.extend(data.unwrap_or_default());
+    for event in &case.events {
+        log.extend(event.time.to_be_bytes());
+        log.extend(event.kind.to_be_bytes());
+        log.extend(event.offset.to_be_bytes());
+        log.extend(event.length.to_be_bytes());
+    }
+    log.extend(&case.replies);
+    Some(log)
+}
+
+/// The logs of a file.
+pub fn split(file: &[u8]) -> Result<Vec<&[u8]>, String> {
+    let mut logs = Vec::new();
+    let mut rest = file;
+    while !rest.is_empty() {
+        if rest.len() < 4 {
+            return Err(format!(
+                "The file ends within the length of log {}.",
+                logs.len()
+            ));
+        }
+        let length = u32_at(rest, 0) as usize;
+        if rest.len() - 4 < length {
+            return Err(format!("The file ends within log {}.", logs.len()));
+        }
+        logs.push(&rest[4..4 + length]);
+        rest = &rest[4 + length..];
+    }
+    Ok(logs)
+}
+
+/// The line of an observation, without its newline.
+pub fn line(observed: &Observed) -> String {
+    let mut detail = Vec::new();
+    match &observed.outcome {
+        Outcome::Positive(Data::Bytes(data)) => detail.extend(data),
+        Outcome::Negative(code) => detail.push(*code),
+        Outcome::Transport(number) => detail.extend(number.to_be_bytes()),
+        Outcome::Deviation { number, reply, .. } => {
+            detail.push(*number);
+            detail.extend(reply);
+        }
+        Outcome::Overflow { reply } => detail.extend(reply),
+        Outcome::Refused(number) => detail.push(*number),
+        _ => {}
+    }
+    let mut line = format!(
+        "{} {} {} {} ",
+        observed.outcome.word(),
+        observed.time,
+        observed.events,
+        observed.notices
+    );
+    if detail.is_empty() {
+        line.push('-');
+    }
+    for byte in detail {
+        write!(line, "{byte:02x}").expect("a string takes all that is written");
+    }
+    line
+}
