@@ -4,7 +4,7 @@
 use crate::generate::{Generator, EVERY_THREE_BYTES, GENERATORS};
 use crate::model::{Case, Data, Event, Memory, Observed, Outcome, Place};
 use crate::original::Original;
-use crate::rng::Rng;
+use crate::sample::generator_rng;
 use crate::{direct, log};
 use std::collections::BTreeMap;
 
@@ -125,9 +125,23 @@ impl Tally {
             self.not_handed_out
         );
         println!(
-            "Generated, but without counterpart in the original (refusals 8 to 10): {}.",
+            "Besides, without counterpart in the original and judged by document 01's rules (refusals 8 and 10): {}.",
             self.no_counterpart
         );
+    }
+}
+
+/// Whether the original has what the case asks: it has no refusals 8 to 10.
+pub fn has_counterpart(case: &Case) -> bool {
+    !matches!(direct::refusal(case, 4095), Some(8..=10))
+}
+
+/// What is right: what the original does, and where it has no counterpart what document 01 says.
+fn judged(original: &mut Original, case: &Case) -> Observed {
+    if has_counterpart(case) {
+        original.run(case)
+    } else {
+        direct::run(case)
     }
 }
 
@@ -140,25 +154,24 @@ pub fn compare_on(generators: &[Generator], seed: u64, side: Side) -> Tally {
     let mut tally = Tally::default();
     for (at, generator) in generators.iter().enumerate() {
         let before = tally.cases;
-        let mut rng = Rng::new(seed ^ (at as u64) << 32);
-        (generator.run)(&mut rng, &mut |case| {
-            if matches!(direct::refusal(case, 4095), Some(8..=10)) {
-                tally.no_counterpart += 1;
-                return;
-            }
-            let right = original.run(case);
+        (generator.run)(&mut generator_rng(seed, at), &mut |case| {
+            let right = judged(&mut original, case);
             let other = side(case);
-            tally.count(case, &right);
+            if has_counterpart(case) {
+                tally.count(case, &right);
+            } else {
+                tally.no_counterpart += 1;
+            }
             let fields = differences(case, &right, &other);
             if !fields.is_empty() {
                 tally.failed += 1;
                 if tally.failed <= SHOWN {
                     let least = smallest(case, &mut |case| {
-                        !matches!(direct::refusal(case, 4095), Some(8..=10))
-                            && differences(case, &original.run(case), &side(case)) == fields
+                        let right = judged(&mut original, case);
+                        differences(case, &right, &side(case)) == fields
                     });
                     println!("Mismatch in {}: {}", generator.name, fields.join(", "));
-                    show(&least, &original.run(&least), &side(&least));
+                    show(&least, &judged(&mut original, &least), &side(&least));
                 }
             }
         });
@@ -281,7 +294,7 @@ fn pack(case: &mut Case) {
 }
 
 /// The command: all generators, and with `full` the long one too.
-pub fn compare(seed: u64, full: bool, side: Side) -> Result<usize, String> {
+pub fn compare(side: Side, seed: u64, full: bool) -> Result<usize, String> {
     let mut tally = compare_on(&GENERATORS, seed, side);
     if full {
         let long = compare_on(&[EVERY_THREE_BYTES], seed, side);

@@ -135,7 +135,7 @@ fn sound_events(events: &[Event], replies: &[u8]) -> bool {
 }
 
 /// The request's length, once the arguments are not refused.
-fn request_length(call: &Call) -> usize {
+pub fn request_length(call: &Call) -> usize {
     let memory = call.memory().map_or(0, |memory| {
         let (address, size) = lengths(memory);
         1 + address + size

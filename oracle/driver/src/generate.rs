@@ -2,7 +2,7 @@
 //! copies of good conversations. Seeded, so that a run can be repeated.
 
 use crate::direct;
-use crate::model::{Call, Case, Memory, Setting, END, ERROR, IDLE, REPLY};
+use crate::model::{Call, Case, Memory, Setting, END, ERROR, IDLE};
 use crate::rng::Rng;
 
 pub type Visit<'v> = dyn FnMut(&Case) + 'v;
@@ -13,7 +13,7 @@ pub struct Generator {
 }
 
 /// All generators of a comparison, in order.
-pub const GENERATORS: [Generator; 16] = [
+pub const GENERATORS: [Generator; 17] = [
     Generator {
         name: "replies of up to two bytes",
         run: short_replies,
@@ -77,6 +77,10 @@ pub const GENERATORS: [Generator; 16] = [
     Generator {
         name: "anything",
         run: anything,
+    },
+    Generator {
+        name: "refusals 8 and 10, and around them",
+        run: beyond,
     },
 ];
 
@@ -1109,8 +1113,53 @@ fn anything(rng: &mut Rng, visit: &mut Visit) {
                 }
             }
         }
-        debug_assert!(case.events.iter().all(|event| event.kind != REPLY
-            || event.offset as usize + event.length as usize <= case.replies.len()));
+        visit(&case);
+    }
+}
+
+/// Event lists that break a limit, requests that are too long, and their neighbours that are not: also with arguments that
+/// another refusal meets first.
+fn beyond(rng: &mut Rng, visit: &mut Visit) {
+    let calls = sample_calls();
+    for _ in 0..40_000 {
+        let mut case = some_case(rng, &calls);
+        add_waiting(rng, &mut case, 4);
+        let reply = good_reply(&case.call, rng);
+        let time = case.events.last().map_or(0, |event| event.time);
+        case.reply(time, &reply);
+        if rng.once_in(16) {
+            if let Some(data) = case.call.data_mut() {
+                let many = rng.between(4085, 4096);
+                data.resize(many, 0x33);
+            }
+        }
+        if rng.once_in(16) {
+            if let Some(Memory::Bytes { address, .. }) = case.call.memory_mut() {
+                address.clear();
+            }
+        }
+        if rng.once_in(64) {
+            let count = rng.pick(&[512, 513]);
+            while case.events.len() < count {
+                case.event(time, IDLE, 0);
+            }
+        }
+        let at = rng.below(case.events.len());
+        let event = &mut case.events[at];
+        match rng.below(8) {
+            0 => event.kind = rng.pick(&[4, 5, 256, 65535]),
+            1 => event.time = event.time.wrapping_sub(1),
+            2 => event.time = event.time.wrapping_add(1),
+            3 if event.kind == 0 => event.length = event.length.wrapping_add(1),
+            4 if event.kind == 0 => event.offset = event.offset.wrapping_add(1),
+            5 if event.kind == 0 => event.offset = rng.pick(&[65535, 65534]),
+            6 if event.kind == 0 => {
+                event.length = rng.pick(&[4095, 4096, 4097]);
+                event.offset = 0;
+                case.replies.resize(4097, 0);
+            }
+            _ => {}
+        }
         visit(&case);
     }
 }

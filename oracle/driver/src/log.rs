@@ -81,38 +81,41 @@ pub fn read(log: &[u8]) -> Option<Case> {
         return None;
     }
 
-    let mut events = Vec::with_capacity(event_count);
-    for entry in log[events_at..replies_at].chunks_exact(EVENT) {
-        let event = Event {
-            time: u32_at(entry, 0),
-            kind: u16_at(entry, 4),
-            offset: u16_at(entry, 6),
-            length: u16_at(entry, 8),
-        };
-        let unused_are_zero = match event.kind {
-            1 | 2 => event.offset == 0 && event.length == 0,
-            3 => event.offset == 0,
-            _ => true,
-        };
-        if !unused_are_zero {
-            return None;
-        }
-        events.push(event);
+    let events = events_of(&log[events_at..replies_at]);
+    let unused_are_zero = |event: &Event| match event.kind {
+        1 | 2 => event.offset == 0 && event.length == 0,
+        3 => event.offset == 0,
+        _ => true,
+    };
+    if !events.iter().all(unused_are_zero) {
+        return None;
     }
 
     let arguments = &log[arguments_at..events_at];
     let (address, rest) = arguments.split_at(address_length as usize);
     let (size, rest) = rest.split_at(size_length as usize);
-    let data = flag(DATA).then(|| rest.to_vec());
     let memory = Memory::Bytes {
         address: address.to_vec(),
         size: size.to_vec(),
     };
+    let call = call_of(number, flags, value, sub, memory, rest);
+    let times = [u32_at(log, 24), u32_at(log, 28), limit];
+    Some(Case {
+        call,
+        setting: setting_of(flags, times),
+        events,
+        replies: log[replies_at..].to_vec(),
+    })
+}
+
+/// The call that the fields of a header say.
+pub fn call_of(number: u8, flags: u8, value: u16, sub: u8, memory: Memory, data: &[u8]) -> Call {
+    let data = (flags & DATA != 0).then(|| data.to_vec());
     let [high, low] = value.to_be_bytes();
-    let call = match number {
+    match number {
         0 => Call::Request {
             sid: low,
-            sub: flag(SUB).then_some(sub),
+            sub: (flags & SUB != 0).then_some(sub),
             data,
         },
         1 => Call::Session { sub },
@@ -147,32 +150,43 @@ pub fn read(log: &[u8]) -> Option<Case> {
         },
         13 => Call::Transfer { counter: low, data },
         _ => Call::TransferExit { data },
-    };
-    Some(Case {
-        call,
-        setting: Setting {
-            strict: flag(STRICT),
-            server_timing: flag(SERVER_TIMING),
-            quiet: flag(QUIET),
-            p2: u32_at(log, 24),
-            p2_star: u32_at(log, 28),
-            limit: flag(LIMIT).then_some(limit),
-        },
-        events,
-        replies: log[replies_at..].to_vec(),
-    })
+    }
 }
 
-/// The log that says a case, or none where no log can: an `alfid` form, or an area too long for its field.
-pub fn write(case: &Case) -> Option<Vec<u8>> {
-    let setting = &case.setting;
-    let empty: &[u8] = &[];
-    let (address, size) = match case.call.memory() {
-        Some(Memory::Bytes { address, size }) => (&address[..], &size[..]),
-        Some(Memory::Alfid { .. }) => return None,
-        None => (empty, empty),
+/// The setting that the flags and P2, P2*, T say.
+pub fn setting_of(flags: u8, [p2, p2_star, limit]: [u32; 3]) -> Setting {
+    let flag = |weight| flags & weight != 0;
+    Setting {
+        strict: flag(STRICT),
+        server_timing: flag(SERVER_TIMING),
+        quiet: flag(QUIET),
+        p2,
+        p2_star,
+        limit: flag(LIMIT).then_some(limit),
+    }
+}
+
+/// The events that stand in an area of events.
+pub fn events_of(area: &[u8]) -> Vec<Event> {
+    let event = |entry: &[u8]| Event {
+        time: u32_at(entry, 0),
+        kind: u16_at(entry, 4),
+        offset: u16_at(entry, 6),
+        length: u16_at(entry, 8),
     };
-    let data = case.call.data();
+    area.chunks_exact(EVENT).map(event).collect()
+}
+
+/// Flags, value and sub of a header, and its three times.
+pub struct Fields {
+    pub flags: u8,
+    pub value: u16,
+    pub sub: u8,
+    pub times: [u32; 3],
+}
+
+pub fn fields_of(case: &Case) -> Fields {
+    let setting = &case.setting;
     let value = match &case.call {
         Call::Request { sid: byte, .. }
         | Call::FaultCount { mask: byte }
@@ -193,27 +207,54 @@ pub fn write(case: &Case) -> Option<Vec<u8>> {
         _ => 0,
     };
     let fixed_sub = matches!(case.call, Call::TesterPresent | Call::FaultCount { .. });
-    let sub = if fixed_sub { None } else { case.call.sub() };
-    let mut flags = 0;
-    for (weight, set) in [
+    let sub = case.call.sub().filter(|_| !fixed_sub);
+    let flags = [
         (STRICT, setting.strict),
         (SERVER_TIMING, setting.server_timing),
         (QUIET, setting.quiet),
         (LIMIT, setting.limit.is_some()),
         (SUB, case.call.number() == 0 && sub.is_some()),
-        (DATA, data.is_some()),
-    ] {
-        flags |= if set { weight } else { 0 };
+        (DATA, case.call.data().is_some()),
+    ];
+    Fields {
+        flags: flags.iter().map(|&(weight, set)| weight * set as u8).sum(),
+        value,
+        sub: sub.unwrap_or(0),
+        times: [setting.p2, setting.p2_star, setting.limit.unwrap_or(0)],
     }
-    let arguments = address.len() + size.len() + data.map_or(0, <[u8]>::len);
+}
+
+/// The area of events.
+pub fn event_bytes(events: &[Event]) -> Vec<u8> {
+    let mut area = Vec::with_capacity(events.len() * EVENT);
+    for event in events {
+        area.extend(event.time.to_be_bytes());
+        area.extend(event.kind.to_be_bytes());
+        area.extend(event.offset.to_be_bytes());
+        area.extend(event.length.to_be_bytes());
+    }
+    area
+}
+
+/// The log that says a case, or none where no log can: an `alfid` form, or an area too long for its field.
+pub fn write(case: &Case) -> Option<Vec<u8>> {
+    let empty: &[u8] = &[];
+    let (address, size) = match case.call.memory() {
+        Some(Memory::Bytes { address, size }) => (&address[..], &size[..]),
+        Some(Memory::Alfid { .. }) => return None,
+        None => (empty, empty),
+    };
+    let data = case.call.data().unwrap_or_default();
+    let fields = fields_of(case);
+    let arguments = address.len() + size.len() + data.len();
     let events_at = HEADER + arguments;
     let replies_at = events_at + case.events.len() * EVENT;
     let total = replies_at + case.replies.len();
 
     let mut log = Vec::with_capacity(total);
-    log.extend([0, 1, case.call.number(), flags]);
-    log.extend(value.to_be_bytes());
-    log.push(sub.unwrap_or(0));
+    log.extend([0, 1, case.call.number(), fields.flags]);
+    log.extend(fields.value.to_be_bytes());
+    log.push(fields.sub);
     log.push(address.len().try_into().ok()?);
     log.push(size.len().try_into().ok()?);
     log.push(0);
@@ -228,18 +269,11 @@ pub fn write(case: &Case) -> Option<Vec<u8>> {
     ] {
         log.extend(u16::try_from(number).ok()?.to_be_bytes());
     }
-    for time in [setting.p2, setting.p2_star, setting.limit.unwrap_or(0)] {
-        log.extend(time.to_be_bytes());
-    }
+    log.extend(fields.times.into_iter().flat_map(u32::to_be_bytes));
     log.extend(address);
     log.extend(size);
-    log.extend(data.unwrap_or_default());
-    for event in &case.events {
-        log.extend(event.time.to_be_bytes());
-        log.extend(event.kind.to_be_bytes());
-        log.extend(event.offset.to_be_bytes());
-        log.extend(event.length.to_be_bytes());
-    }
+    log.extend(data);
+    log.extend(event_bytes(&case.events));
     log.extend(&case.replies);
     Some(log)
 }

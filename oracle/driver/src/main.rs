@@ -1,27 +1,71 @@
-//! oracle: the original's UDS client and document 01's rules on the same cases. README.md says what each command does.
+//! oracle: the original's UDS client, document 01's rules and the proved library on the same cases. README.md says what
+//! each command does.
 #![deny(unsafe_code)]
 
 mod compare;
 mod direct;
+mod faults;
 mod generate;
 mod lines;
+mod list;
 mod log;
 mod model;
 mod original;
+#[cfg(feature = "proved")]
+mod proved;
 mod rng;
+mod sample;
+mod time;
 
-const USAGE: &str = "oracle lines LOGS [EXPECTED]";
+const USAGE: &str = "\
+oracle lines LOGS [EXPECTED]       the line of each log of a file, or a comparison with the expected lines
+oracle compare SIDE [SEED] [full]  the original against SIDE on millions of generated cases
+oracle sample SIDE [SEED]          the same on some of each kind of them
+oracle faults SIDE [SEED]          that faults in the inputs of SIDE are noticed
+oracle list PREFIX [SEED]          writes the fixed list, PREFIX.bin and PREFIX.expected
+oracle time [SEED]                 what a call costs
+SIDE is direct or, where the driver was built with it, proved. SEED is a number, 1 if left out.";
+
+fn side(name: &str) -> Result<compare::Side, String> {
+    match name {
+        "direct" => Ok(direct::run),
+        #[cfg(feature = "proved")]
+        "proved" => Ok(proved::run),
+        #[cfg(not(feature = "proved"))]
+        "proved" => Err("The driver was built without the proved library.".to_string()),
+        other => Err(format!("There is no side {other}; it is direct or proved.")),
+    }
+}
+
+fn seed(word: Option<&&str>) -> Result<u64, String> {
+    match word {
+        None => Ok(1),
+        Some(word) => word
+            .parse()
+            .map_err(|_| format!("{word} is no number for a seed.")),
+    }
+}
+
+fn run(words: &[&str]) -> Result<usize, String> {
+    match words {
+        ["lines", logs] => lines::lines(logs, None),
+        ["lines", logs, expected] => lines::lines(logs, Some(expected)),
+        ["compare", name, more @ .., "full"] => {
+            compare::compare(side(name)?, seed(more.first())?, true)
+        }
+        ["compare", name, more @ ..] => compare::compare(side(name)?, seed(more.first())?, false),
+        ["sample", name, more @ ..] => faults::sample(side(name)?, seed(more.first())?),
+        ["faults", name, more @ ..] => faults::faults(side(name)?, seed(more.first())?),
+        ["list", prefix, more @ ..] => list::list(prefix, seed(more.first())?),
+        ["time", more @ ..] => time::time(seed(more.first())?),
+        _ => Err(format!("Usage:\n{USAGE}")),
+    }
+}
 
 fn main() {
     let arguments: Vec<String> = std::env::args().skip(1).collect();
     let words: Vec<&str> = arguments.iter().map(String::as_str).collect();
-    let done = match words[..] {
-        ["lines", logs] => lines::lines(logs, None),
-        ["lines", logs, expected] => lines::lines(logs, Some(expected)),
-        ["compare", "direct"] => compare::compare(1, false, direct::run),
-        _ => Err(format!("Usage:\n{USAGE}")),
-    };
-    match done {
+    match run(&words) {
         Ok(0) => {}
         Ok(_) => std::process::exit(1),
         Err(sentence) => {
