@@ -25,25 +25,24 @@ pub fn line_of(original: &mut Original, log: &[u8]) -> (String, Source) {
         ),
         _ => {
             let mut observed = original.run(&case);
-            hand_out(&case, &mut observed);
+            if observed.outcome == Outcome::Positive(Data::NotHandedOut) {
+                let data = handed_by_rule(&case, &observed).to_vec();
+                observed.outcome = Outcome::Positive(Data::Bytes(data));
+            }
             (log::line(&observed), Source::Original)
         }
     }
 }
 
-/// The data of calls 6, 11 and 12, which the original keeps to itself: "all after the SID" and "the n" of the reply that
-/// it read last.
-pub fn hand_out(case: &Case, observed: &mut Observed) {
-    if observed.outcome != Outcome::Positive(Data::NotHandedOut) {
-        return;
-    }
-    let event = case.events[observed.events - 1];
+/// The data of calls 6, 11 and 12, which the original keeps to itself, by document 01's rule: "all after the SID" and "the n"
+/// of the reply that it read last.
+pub fn handed_by_rule<'c>(case: &'c Case, original: &Observed) -> &'c [u8] {
+    let event = case.events[original.events - 1];
     let reply = &case.replies[event.offset as usize..][..event.length as usize];
-    let data = match case.call {
+    match case.call {
         Call::WriteMemory { .. } => &reply[1..],
         _ => &reply[2..2 + reply[1] as usize / 16],
-    };
-    observed.outcome = Outcome::Positive(Data::Bytes(data.to_vec()));
+    }
 }
 
 /// Prints the line of each log of a file, or compares it with the expected one.

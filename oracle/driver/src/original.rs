@@ -11,6 +11,7 @@ use std::cell::{Cell, RefCell};
 use std::future::Future;
 use std::panic::{catch_unwind, AssertUnwindSafe};
 use std::pin::Pin;
+use std::sync::Once;
 use std::task::{Context, Poll};
 use std::time::Duration;
 use tokio::runtime::{Builder, Runtime};
@@ -20,6 +21,13 @@ use tokio::time::{sleep_until, Instant, Sleep};
 pub struct Original {
     runtime: Runtime,
     begin: Instant,
+}
+
+static HOOK: Once = Once::new();
+
+thread_local! {
+    /// The original runs: its panics are caught, and nothing is printed of them.
+    static CATCHING: Cell<bool> = const { Cell::new(false) };
 }
 
 /// A runtime is replaced before its clock reaches this: tokio's timer wheel turns over at 2^36 ms, and the longest case
@@ -38,8 +46,14 @@ fn paused_runtime() -> (Runtime, Instant) {
 
 impl Default for Original {
     fn default() -> Self {
-        // A refusal may be a panic here; it is caught, and its message is read.
-        std::panic::set_hook(Box::new(|_| {}));
+        HOOK.call_once(|| {
+            let usual = std::panic::take_hook();
+            std::panic::set_hook(Box::new(move |info| {
+                if !CATCHING.with(Cell::get) {
+                    usual(info);
+                }
+            }));
+        });
         let (runtime, begin) = paused_runtime();
         Original { runtime, begin }
     }
@@ -181,7 +195,10 @@ impl<F: Future + Unpin> Future for Caught<F> {
     type Output = Result<F::Output, String>;
 
     fn poll(mut self: Pin<&mut Self>, context: &mut Context<'_>) -> Poll<Self::Output> {
-        match catch_unwind(AssertUnwindSafe(|| Pin::new(&mut self.0).poll(context))) {
+        CATCHING.with(|catching| catching.set(true));
+        let polled = catch_unwind(AssertUnwindSafe(|| Pin::new(&mut self.0).poll(context)));
+        CATCHING.with(|catching| catching.set(false));
+        match polled {
             Ok(Poll::Pending) => Poll::Pending,
             Ok(Poll::Ready(output)) => Poll::Ready(Ok(output)),
             Err(payload) => Poll::Ready(Err(match payload.downcast_ref::<&str>() {

@@ -3,7 +3,7 @@
 
 use crate::direct::{self, Verdict};
 use crate::generate::GENERATORS;
-use crate::model::Case;
+use crate::model::{Case, Memory};
 use crate::rng::Rng;
 use std::collections::BTreeMap;
 
@@ -20,6 +20,8 @@ struct Kind {
     number: u8,
     /// Deviation 8's minimum, as far as small ones differ.
     minimum: usize,
+    /// The size has more than eight bytes.
+    wide: bool,
 }
 
 impl Kind {
@@ -56,6 +58,10 @@ fn kind(generator: usize, case: &Case) -> Kind {
         outcome,
         number,
         minimum,
+        wide: match case.call.memory() {
+            Some(Memory::Bytes { size, .. }) => size.len() > 8,
+            _ => false,
+        },
     }
 }
 
