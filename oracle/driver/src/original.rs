@@ -30,7 +30,7 @@ thread_local! {
     static CATCHING: Cell<bool> = const { Cell::new(false) };
 }
 
-/// A runtime is replaced before its clock reaches this: tokio's timer wheel turns over at 2^36 ms, and the longest case
+/// A runtime is replaced once its clock has passed this: tokio's timer wheel turns over at 2^36 ms, and the longest case
 /// with its probes of the timing takes less than 2^35 ms.
 const CLOCK_END: Duration = Duration::from_millis(1 << 35);
 
