@@ -20,7 +20,7 @@ struct Kind {
     number: u8,
     /// Deviation 8's minimum, as far as small ones differ.
     minimum: usize,
-    /// The size has more than eight bytes.
+    /// The size is above 2^64 - 1.
     wide: bool,
 }
 
@@ -59,7 +59,7 @@ fn kind(generator: usize, case: &Case) -> Kind {
         number,
         minimum,
         wide: match case.call.memory() {
-            Some(Memory::Bytes { size, .. }) => size.len() > 8,
+            Some(Memory::Bytes { size, .. }) => size.iter().rev().skip(8).any(|&byte| byte != 0),
             _ => false,
         },
     }
