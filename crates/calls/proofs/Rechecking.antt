@@ -6,12 +6,11 @@ use Rattle.rules.specs.After.{checked}
 use Rattle.rules.specs.Answers as rules
 use Rattle.rules.specs.Answers.{ifPositive}
 use Rattle.exchange.specs.Meaning.{partOf, outcomeOf}
-use Rattle.exchange.specs.Places.{InsideOutcome}
 use Rattle.exchange.specs.declared.types.Answer.{Answer}
 use Rattle.exchange.specs.declared.types.Outcome.{Outcome}
 use Rattle.exchange.specs.declared.types.Outcome.the-variants as outcome
 use Rattle.exchange.specs.declared.types.Place.{Place}
-use Rattle.checks.specs.Answered.{asked, answered, Inside, placeOf, Checked}
+use Rattle.checks.specs.Answered.{asked, answered, Checked}
 use Rattle.calls.specs.Concluded.{Rechecked}
 use Rattle.calls.specs.declared.Ask.{Ask}
 
@@ -40,26 +39,14 @@ module _ (replies : List ℕ) where
   stays outcome.BlockLengthOverflow n f = refl
   stays (outcome.Refused k) n f = refl
 
-  place-inside : (o : Outcome) → Inside replies (placeOf o) → InsideOutcome replies o
-  place-inside (outcome.PositiveResponse p) i = i
-  place-inside outcome.Suppressed i = tt
-  place-inside (outcome.NegativeResponse c) i = tt
-  place-inside outcome.Timeout i = tt
-  place-inside outcome.Disconnected i = tt
-  place-inside (outcome.Transport k) i = tt
-  place-inside (outcome.ProtocolDeviation d) i = tt
-  place-inside outcome.InvalidResponseLength i = tt
-  place-inside outcome.BlockLengthOverflow i = tt
-  place-inside (outcome.Refused k) i = tt
-
   module _ {ask : Ask} {a s : List ℕ} {heard : Answer} where
     pub as-heard : {o : Outcome} → NotPositive o → heard .outcome ≡ o → Rechecked ask a s replies heard (heard .outcome)
-    as-heard {o = o} n e = record { means = λ d. stays (heard .outcome) (subst⁻¹ NotPositive e n) _; inside = λ i. i }
+    as-heard n e = record { means = λ d. stays (heard .outcome) (subst⁻¹ NotPositive e n) _; inside = λ i. i }
 
     pub checked-again : {p : Place} {r : Outcome} → heard .outcome ≡ outcome.PositiveResponse p
         → Checked (ask .strict) (ask .call) a s (ask .present) replies (heard .reply) r → Rechecked ask a s replies heard r
-    checked-again {r = r} e k = record {
+    checked-again e k = record {
       means = λ d. k .means d ∙
           sym (ap (λ (o : Outcome). ifPositive (outcomeOf replies o) (λ p. answered replies (checked (ask .strict) (asked (ask .call) a s (ask .present) d) (partOf replies (heard .reply)))) (outcomeOf replies o)) e);
-      inside = λ i. place-inside r (k .inside);
+      inside = λ i. k .inside;
     }

@@ -1,44 +1,41 @@
 -- A whole call in its three ways: refused by its arguments or its size, refused by its events, or answered.
-use Prim.Native.Nat.{ℕ, _+_, _^_, _≤_, _<_}
+use Prim.Native.Nat.{ℕ}
 use native.Mathlib.Omega.{arith}
 use mathlib.Core.Bool.{Bool, true, false, cond, false≢true, true≢false}
-use mathlib.Core.Path.{_≡_, refl, sym, _∙_, ap, ap₂, subst, subst⁻¹}
-use mathlib.Core.List.{List, [], _∷_, _++_, map}
+use mathlib.Core.Path.{_≡_, refl, sym, _∙_, ap, subst⁻¹}
+use mathlib.Core.List.{List, [], _++_}
 use mathlib.Core.Option.{Option, none, some}
-use lib.Dec.{leb, ltb, eqb}
-use lib.ListN.{length, take, drop, length-take, length-drop}
-use lib.Seq.{take-all}
-use borrow.Author.Tests.{leb-true, le-leb, lt-ltb}
-use Rattle.rules.specs.After.{checks, handed, checked, after, numberOf}
+use lib.ListN.{length}
+use Rattle.rules.specs.After.{checked, after, numberOf}
 use Rattle.rules.specs.After as rules-after
-use Rattle.rules.specs.Answers.{Part, part, behind, Fault, Outcome, positive, suppressed, negative, timeout, disconnected, transport, fault, refused, ifPositive}
+use Rattle.rules.specs.Answers.{Outcome, positive, suppressed, negative, timeout, disconnected, transport, fault, refused, ifPositive}
 use Rattle.rules.specs.Answers as answers
 use Rattle.rules.specs.Calls as rules
-use Rattle.rules.specs.Calls.{sidOf, withBit7, head, requestOf, loads, given, sent}
-use Rattle.rules.specs.Checks.{Check, judge}
+use Rattle.rules.specs.Calls.{sidOf, withBit7, requestOf}
+use Rattle.rules.specs.Checks.{judge}
 use Rattle.rules.specs.Client.{Result, asked, eventsIn, refuse, answered, call}
 use Rattle.rules.specs.Demand3.{Refused}
 use Rattle.rules.specs.Events.{withinLimits}
 use Rattle.rules.specs.Exchange as exchange
-use Rattle.rules.specs.Refusals.{arguments, between, width, methods, lengths}
+use Rattle.rules.specs.Refusals.{arguments}
 use Rattle.rules.specs.Settings.{Setting, Lent}
-use Rattle.rules.proofs.Inside.{Headed, exchange-headed, data-inside, number-fits}
-use Rattle.rules.proofs.Judging.{Pass, both, judge-ind, judge-inv, pass-append}
+use Rattle.rules.proofs.Inside.{Headed, exchange-headed}
+use Rattle.rules.proofs.Judging.{Pass, judge-inv, pass-append}
 use Rattle.rules.proofs.Unrefused.{exchange-unrefused}
 use Rattle.exchange.specs.Guarded.{guarded}
 use Rattle.exchange.specs.Meaning.{partOf, outcomeOf, answerOf, askedOf, limitOf, subOf}
 use Rattle.exchange.specs.Places.{Inside, InsideOutcome, Answers}
 use Rattle.exchange.specs.declared.types.Answer.{Answer}
+use Rattle.exchange.specs.declared.types.Place.{Place}
 use Rattle.requests.specs.Meaning.{callOf}
 use Rattle.exchange.specs.declared.types.SubFunction.{SubFunction}
 use Rattle.requests.specs.Requests.{bare, sizes, refusalOf, over}
-use Rattle.requests.specs.declared.calls.Call.{Call}
-use Rattle.requests.specs.declared.calls.Call.the-variants as call-of
 use Rattle.requests.proofs.Callers.{lead}
 use Rattle.requests.proofs.Judging.{by-number, numbered-append}
 use Rattle.requests.proofs.Refusals as refusing
 use Rattle.checks.specs.Answered as checking
 use Rattle.checks.specs.Answered.{fitting}
+use Rattle.checks.proofs.Inside.{as-sent, as-checked, number-is}
 use Rattle.calls.specs.Concluded.{Rechecked, Concluded}
 use Rattle.calls.specs.Meaning.{timingOf, settingOf, lentOf, resultOf, refusedOf, isRefused, Called}
 use Rattle.calls.specs.declared.Session.{Session}
@@ -78,7 +75,7 @@ module _ (m : Bool) (a : exchange.Asked) (limit : Option ℕ) (events replies : 
   unfolding guarded
   opens h = rw h
 
--- What no refusal of 1 to 9 gives: the arguments passed, so an address and a size have at most 15 bytes.
+-- What no refusal of 1 to 9 gives: the arguments passed.
 passes : (quiet : Bool) (c : rules.Call) (room : ℕ) → refusalOf quiet c room ≡ 0 → Pass (arguments c)
 unfolding refusalOf
 passes quiet c room e =
@@ -87,66 +84,17 @@ passes quiet c room e =
     let nothing : judge some (arguments c ++ size) none ≡ none = by-number some (arguments c ++ size) none numbered ∙ rw e in
     pass-append (arguments c) size (judge-inv some (arguments c ++ size) (λ f z. let y : _≡_ {A = ℕ} 0 1 = cc in omega arith) nothing .0) .0
 
-fifteen : (x : List ℕ) → between 1 15 (length x) ≡ true → take 15 x ≡ x
-fifteen x e = take-all 15 x (leb-true (length x) 15 (both (leb 1 (length x)) (leb (length x) 15) e .1))
-
-short : (k : Call) (a s : List ℕ) (p : Bool) (d : List ℕ) → Pass (arguments (callOf k a s p d)) → callOf k (take 15 a) (take 15 s) p d ≡ callOf k a s p d
-short (call-of.Request sid sub) a s p d h = refl
-short (call-of.DiagnosticSessionControl sub) a s p d h = refl
-short (call-of.EcuReset sub) a s p d h = refl
-short (call-of.SecurityAccess sub) a s p d h = refl
-short call-of.TesterPresent a s p d h = refl
-short call-of.ReadMemoryByAddress a s p d h = ap₂ (λ (x y : List ℕ). rules.readMemory (given x) (given y)) (fifteen a (h .0)) (fifteen s (h .1 .0))
-short call-of.WriteMemoryByAddress a s p d h = ap₂ (λ (x y : List ℕ). rules.writeMemory (given x) (given y) d) (fifteen a (h .0)) (fifteen s (h .1 .0))
-short (call-of.ReadDataByIdentifier id) a s p d h = refl
-short (call-of.WriteDataByIdentifier id) a s p d h = refl
-short (call-of.ReadDTCInformation mask) a s p d h = refl
-short (call-of.RoutineControl sub id) a s p d h = refl
-short (call-of.RequestDownload c e) a s p d h = ap₂ (λ (x y : List ℕ). rules.download c e (given x) (given y)) (fifteen a (h .1 .1 .0)) (fifteen s (h .1 .1 .1 .0))
-short (call-of.RequestUpload c e) a s p d h = ap₂ (λ (x y : List ℕ). rules.upload c e (given x) (given y)) (fifteen a (h .1 .1 .0)) (fifteen s (h .1 .1 .1 .0))
-short (call-of.TransferData counter) a s p d h = refl
-short call-of.RequestTransferExit a s p d h = refl
-
--- Checks of a reply that lies in the lent bytes: its data does too, and its number fits.
-module _ (m quiet : Bool) (c : rules.Call) (replies : List ℕ) (p : Part) (inside : p .at + length (p .bytes) ≤ length replies) where
-  abbrev sub : Option ℕ
-  sub = withBit7 quiet (rules.subOf c)
-
-  rechecked-lent : head sub ≤ length (p .bytes) → checking.answered replies (checked m c p) ≡ checked m c p
-  unfolding checked
-  rechecked-lent h =
-      judge-ind (λ o. checking.answered replies o ≡ o) fault (checks m c (p .bytes)) (positive (handed c p)) (λ f. refl)
-      (λ k. ap positive (rw (le-leb (handed c p .at) (length replies) (omega (arith, data-inside m quiet (p .at) (p .bytes) c h k)))))
-
-  pub lent-outcome : (q : Outcome) → Headed sub p q → ifPositive q (λ x. checking.answered replies (checked m c p)) q ≡ ifPositive q (λ x. checked m c p) q
-  lent-outcome (positive x) h = rechecked-lent h
-  lent-outcome suppressed h = refl
-  lent-outcome (negative n) h = refl
-  lent-outcome timeout h = refl
-  lent-outcome disconnected h = refl
-  lent-outcome (transport n) h = refl
-  lent-outcome (fault f) h = refl
-  lent-outcome (refused n) h = refl
-
-  no-number : (b : Bool) → fitting (cond b 0 0) ≡ cond b 0 0
-  no-number true = refl
-  no-number false = refl
-
-  checked-number : fitting (numberOf c (checked m c p)) ≡ numberOf c (checked m c p)
-  unfolding checked
-  checked-number =
-      judge-ind (λ o. fitting (numberOf c o) ≡ numberOf c o) fault (checks m c (p .bytes)) (positive (handed c p)) (λ f. no-number (loads c))
-      (λ k. rw (lt-ltb (numberOf c (positive (handed c p))) (2 ^ 64) (number-fits m quiet (p .at) (p .bytes) c k)))
-
-  pub lent-number : (q : Outcome) → fitting (numberOf c (ifPositive q (λ x. checked m c p) q)) ≡ numberOf c (ifPositive q (λ x. checked m c p) q)
-  lent-number (positive x) = checked-number
-  lent-number suppressed = no-number (loads c)
-  lent-number (negative n) = no-number (loads c)
-  lent-number timeout = no-number (loads c)
-  lent-number disconnected = no-number (loads c)
-  lent-number (transport n) = no-number (loads c)
-  lent-number (fault f) = no-number (loads c)
-  lent-number (refused n) = no-number (loads c)
+-- The checks of a reply that was read as a positive are those of `rules`: its data lies in the lent bytes.
+lent-outcome : (m quiet : Bool) (c : rules.Call) (replies : List ℕ) (place : Place) (q : Outcome) → let p = partOf replies place in Headed (withBit7 quiet (rules.subOf c)) p q
+    → ifPositive q (λ x. checking.answered replies (checked m c p)) q ≡ ifPositive q (λ x. checked m c p) q
+lent-outcome m quiet c replies place (positive x) h = as-checked m quiet replies place c h
+lent-outcome m quiet c replies place suppressed h = refl
+lent-outcome m quiet c replies place (negative n) h = refl
+lent-outcome m quiet c replies place timeout h = refl
+lent-outcome m quiet c replies place disconnected h = refl
+lent-outcome m quiet c replies place (transport n) h = refl
+lent-outcome m quiet c replies place (fault f) h = refl
+lent-outcome m quiet c replies place (refused n) h = refl
 
 module _ (session : Session) (ask : Ask) (before a s d events replies : List ℕ) where
   abbrev c : rules.Call
@@ -205,16 +153,15 @@ module _ (session : Session) (ask : Ask) (before a s d events replies : List ℕ
           let is-reached : answerOf replies heard ≡ reached = answers-it .means ∙ opens m (asked w c) (w .limit) events replies kept in
           let p = partOf replies (heard .reply) in
           let q = outcomeOf replies (heard .outcome) in
-          let inside : p .at + length (p .bytes) ≤ length replies = part-inside in
           let headed : Headed (asked w c .sub) p q = subst⁻¹ (λ (x : answers.Answer). Headed (asked w c .sub) (x .reply) (x .outcome)) is-reached (exchange-headed m (asked w c) (w .limit) (eventsIn l)) in
-          let full = short (ask .call) a s (ask .present) d (passes (ask .quiet) c (length before) (sym told ∙ none-yet)) in
+          let full = as-sent (ask .call) a s (ask .present) d (passes (ask .quiet) c (length before) (sym told ∙ none-yet)) in
           let outcome : outcomeOf replies (r .answer .outcome) ≡ ifPositive q (λ x. checked m c p) q =
           k .outcome .means d ∙
           ap (λ (y : rules.Call). ifPositive q (λ x. checking.answered replies (checked m y p)) q) full ∙
-          lent-outcome m (ask .quiet) c replies p inside q headed
+          lent-outcome m (ask .quiet) c replies (heard .reply) q headed
           in
           let number : r .number ≡ numberOf c (ifPositive q (λ x. checked m c p) q) =
-          k .number d ∙ ap (λ (o : Outcome). fitting (numberOf c o)) outcome ∙ lent-number m (ask .quiet) c replies p inside q
+          k .number d ∙ ap (λ (o : Outcome). fitting (numberOf c o)) outcome ∙ number-is m c q p
           in
           let timing = k .timing d ∙ ap (λ (o : Outcome). rules-after.timingOf (ask .server) c o (timingOf session)) outcome in
           let told-answer : answerOf replies (r .answer) ≡ after m c (answerOf replies heard) = λ i. answers.answer (outcome i) (k .time i) (k .events i) (k .notices i) (partOf replies (k .reply i)) in
@@ -227,8 +174,3 @@ module _ (session : Session) (ask : Ask) (before a s d events replies : List ℕ
             outcome = k .outcome .inside (answers-it .outcome);
             reply = subst⁻¹ (λ x. Inside replies x) (k .reply) (answers-it .reply);
           }
-        where
-          part-inside : heard .reply .at + length (take (heard .reply .len) (drop (heard .reply .at) replies)) ≤ length replies
-          part-inside =
-              let i = answers-it .reply in
-              rw (length-take (heard .reply .len) (drop (heard .reply .at) replies), length-drop (heard .reply .at) replies) (omega arith)

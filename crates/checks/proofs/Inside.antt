@@ -31,7 +31,7 @@ use Rattle.checks.specs.Answered.{asked, answered, Checked, fitting}
 short : (l : List ℕ) → between 1 15 (length l) ≡ true → take 15 l ≡ l
 short l e = take-all 15 l (leb-true (length l) 15 (both (leb 1 (length l)) (leb (length l) 15) e .1))
 
-as-sent : (c : Call) (a s : List ℕ) (present : Bool) (d : List ℕ) → Pass (arguments (callOf c a s present d)) → asked c a s present d ≡ callOf c a s present d
+pub as-sent : (c : Call) (a s : List ℕ) (present : Bool) (d : List ℕ) → Pass (arguments (callOf c a s present d)) → asked c a s present d ≡ callOf c a s present d
 as-sent (call.Request sid sub) a s present d p = refl
 as-sent (call.DiagnosticSessionControl sub) a s present d p = refl
 as-sent (call.EcuReset sub) a s present d p = refl
@@ -105,7 +105,7 @@ module _ (m quiet : Bool) (l : List ℕ) (place : Place) (c : calls.Call) (heade
   begins p = data-inside m quiet (place .at) (partOf l place .bytes) c headed p
 
   -- No part is nowhere then.
-  as-checked : answered l (checked m c (partOf l place)) ≡ checked m c (partOf l place)
+  pub as-checked : answered l (checked m c (partOf l place)) ≡ checked m c (partOf l place)
   unfolding checked
   as-checked =
       judge-ind (λ o. answered l o ≡ o) fault (checks m c (partOf l place .bytes)) (positive (handed c (partOf l place))) (λ f. refl)
