@@ -2,13 +2,13 @@
 use Prim.Native.Nat.{ℕ}
 use mathlib.Core.Bool.{Bool, true, false}
 use mathlib.Core.Path.{_≡_}
-use mathlib.Core.List.{List}
-use Rattle.rules.specs.Answers.{Outcome, positive, suppressed, negative, timeout, disconnected, transport, fault, refused}
+use mathlib.Core.List.{List, []}
+use Rattle.rules.specs.Answers.{Outcome, positive, suppressed, negative, timeout, disconnected, transport, fault, refused, ifPositive}
 use Rattle.rules.specs.Calls as rules
 use Rattle.rules.specs.Client.{Result}
 use Rattle.rules.specs.Client as client
 use Rattle.rules.specs.Settings.{Timing, Setting, Lent}
-use Rattle.exchange.specs.Meaning.{answerOf, limitOf}
+use Rattle.exchange.specs.Meaning.{outcomeOf, answerOf, limitOf}
 use Rattle.exchange.specs.Places.{Inside, InsideOutcome}
 use Rattle.exchange.specs.declared.types.Outcome.the-variants.{Refused}
 use Rattle.requests.specs.declared.calls.Call.{Call}
@@ -61,6 +61,10 @@ isRefused disconnected = false
 isRefused (transport n) = false
 isRefused (fault f) = false
 isRefused (refused n) = true
+
+-- The data that an answer hands out of the reply bytes; none where it is not positive.
+abbrev pub handedOf : Answered → List ℕ → List ℕ
+handedOf r replies = ifPositive (outcomeOf replies (r .answer .outcome)) (λ p. p .bytes) []
 
 -- Calls 5, 6, 11 and 12.
 abbrev pub takesMemory : Call → Bool

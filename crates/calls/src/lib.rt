@@ -11,7 +11,7 @@ ghost use mathlib.Core.Path.{_≡_};
 ghost use Rattle.exchange.specs.Meaning.{outcomeOf};
 ghost use Rattle.rules.specs.Calls.{alfid};
 ghost use Rattle.requests.specs.Meaning.{callFrom, callOf};
-ghost use Rattle.calls.specs.Meaning.{settingOf, lentOf, refusedOf, isRefused, takesMemory, Called};
+ghost use Rattle.calls.specs.Meaning.{settingOf, lentOf, refusedOf, isRefused, takesMemory, handedOf, Called};
 ghost use Rattle.calls.specs.Concluded.{Rechecked, Concluded};
 
 // "the session record, two numbers that the host lends": P2 and P2*, in milliseconds.
@@ -229,4 +229,41 @@ pub fn run_alfid(
     let address = wire::part(&address, 0, a.len);
     let size = wire::part(&size, 0, s.len);
     run(session, ask, request, address, size, data, events, replies)
+}
+
+// "Handed-out data is a part of the lent reply bytes", with their lifetime.
+pub fn handed_out<'r>(answered: Answered, replies: &'r [u8]) -> &'r [u8]
+    ensures { λ r. ⌜ now r ≡ handedOf answered (now (replies .entry)) ⌝ }
+{
+    let answer = answered.answer;
+    let outcome = answer.outcome;
+    checks::data(outcome, replies)
+}
+
+// The answer, and the data that it hands out.
+pub struct Handed<'r> {
+    pub answer: Answered,
+    pub bytes: &'r [u8],
+}
+
+// The call over the session record that the host lends.
+pub fn call<'r>(
+    session: &mut Session,
+    ask: Ask,
+    request: &mut [u8],
+    address: &[u8],
+    size: &[u8],
+    data: &[u8],
+    events: &[u8],
+    replies: &'r [u8],
+) -> Handed<'r>
+    ensures { λ r. ⌜ (Called (ask .strict) (settingOf ask (now (session .entry))) (callOf (ask .call) (now (address .entry)) (now (size .entry)) (ask .present) (now («data» .entry))) (lentOf (now (request .entry)) (now (events .entry)) (now (replies .entry))) (r .answer) (now (request .exit))) × (now (r .bytes) ≡ handedOf (r .answer) (now (replies .entry))) × (now (session .exit) ≡ r .answer .session) ⌝ }
+{
+    let a = run(*session, ask, request, address, size, data, events, replies);
+    let d = handed_out(a, replies);
+    *session = a.session;
+    Handed {
+        answer: a,
+        bytes: d,
+    }
 }
