@@ -18,7 +18,9 @@ use Rattle.requests.specs.declared.calls.Call.{Call}
 use Rattle.checks.specs.Answered.{asked, Checked, Handed}
 
 -- r: the bytes at the place; v: what its checks say.
-module _ (m : Bool) (call : Call) (a s : List ℕ) (present : Bool) (l : List ℕ) (place : Place) (r : List ℕ) (here : r ≡ take (place .len) (drop (place .at) l)) (v : Verdict) (told : (d : List ℕ) → verdictOf v ≡ firstOf (checks m (asked call a s present d) r)) where
+module _ (m : Bool) (call : Call) (a s : List ℕ) (present : Bool) (l : List ℕ) (place : Place)
+    (r : List ℕ) (here : r ≡ take (place .len) (drop (place .at) l))
+    (v : Verdict) (told : (d : List ℕ) → verdictOf v ≡ firstOf (checks m (asked call a s present d) r)) where
   pub check-failed : (f : Fault) → v ≡ Failed f → Checked m call a s present l place (faulted f)
   unfolding checked
   check-failed f e = record {

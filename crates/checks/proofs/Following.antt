@@ -35,7 +35,8 @@ place-bytes l outcome.BlockLengthOverflow = refl
 place-bytes l (outcome.Refused n) = refl
 
 -- What comes of a positive's data comes of an outcome's bytes, if no bytes give what no positive gives.
-pub of-bytes : {A : Type 0} (f : List ℕ → A) (o : rules.Outcome) → ifPositive o (λ p. f (p .bytes)) (f []) ≡ f (ifPositive o (λ p. p .bytes) [])
+pub of-bytes : {A : Type 0} (f : List ℕ → A) (o : rules.Outcome)
+    → ifPositive o (λ p. f (p .bytes)) (f []) ≡ f (ifPositive o (λ p. p .bytes) [])
 of-bytes f (positive p) = refl
 of-bytes f suppressed = refl
 of-bytes f (negative n) = refl

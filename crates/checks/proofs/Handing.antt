@@ -21,8 +21,10 @@ pub all-behind : (k at : ℕ) (r : List ℕ) → behind k (part at r) ≡ first 
 all-behind k at r = ap (λ (bs : List ℕ). part (at + k) bs) (sym (tail k r))
 
 -- r: the bytes at the place.
-module _ (call : Call) (l : List ℕ) (place : Place) (r : List ℕ) (here : r ≡ take (place .len) (drop (place .at) l)) (s : Span) (out : HandsOut call r s) where
-  found : (a z : List ℕ) (present : Bool) (d : List ℕ) → handed (callOf call a z present d) (partOf l place) ≡ part (place .at + s .0) (take (s .1) (drop (s .0) r))
+module _ (call : Call) (l : List ℕ) (place : Place)
+    (r : List ℕ) (here : r ≡ take (place .len) (drop (place .at) l)) (s : Span) (out : HandsOut call r s) where
+  found : (a z : List ℕ) (present : Bool) (d : List ℕ)
+      → handed (callOf call a z present d) (partOf l place) ≡ part (place .at + s .0) (take (s .1) (drop (s .0) r))
   found a z present d = rw (← here) (out .means (place .at) a z present d)
 
   pub handed-nowhere : length l < place .at + s .0 → Handed call l place (record { at = 0; len = 0 })
@@ -31,11 +33,18 @@ module _ (call : Call) (l : List ℕ) (place : Place) (r : List ℕ) (here : r �
     inside = omega arith;
   }
 
-  pub handed-there : place .at + s .0 ≤ length l → (bytes : List ℕ) → bytes ≡ take (s .1) (drop (s .0) r) → Handed call l place (record { at = place .at + s .0; len = length bytes })
+  pub handed-there : place .at + s .0 ≤ length l → (bytes : List ℕ) → bytes ≡ take (s .1) (drop (s .0) r)
+      → Handed call l place (record { at = place .at + s .0; len = length bytes })
   handed-there h bytes e =
       let cut : bytes ≡ take (s .1) (drop (s .0) (take (place .len) (drop (place .at) l))) = rw (← here) e in
       let stands : take (length bytes) (drop (place .at + s .0) l) ≡ bytes = rw cut (part-of-part (s .1) (s .0) (place .len) (place .at) l) in
       record {
         means = λ a z present d. rw (found a z present d, le-leb (place .at + s .0) (length l) h, stands, e);
-        inside = omega (arith, ap length e ∙ length-take (s .1) (drop (s .0) r), length-drop (s .0) r, ap length here ∙ length-take (place .len) (drop (place .at) l), length-drop (place .at) l);
+        inside = omega (
+          arith,
+          ap length e ∙ length-take (s .1) (drop (s .0) r),
+          length-drop (s .0) r,
+          ap length here ∙ length-take (place .len) (drop (place .at) l),
+          length-drop (place .at) l,
+        );
       }

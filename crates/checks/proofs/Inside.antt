@@ -1,4 +1,4 @@
--- What the contracts come to for a call that is not refused and a reply that was read as a positive: the definitions themselves. And the data lies inside the reply.
+-- What the contracts come to for a call that is not refused and a reply that was a positive: `rules`' definitions. And the data lies inside the reply.
 use Prim.Native.Nat.{ℕ, _+_, _%_, _^_, _≤_}
 use native.Mathlib.Omega.{arith}
 use mathlib.Core.Bool.{Bool, true, false, cond}
@@ -31,7 +31,8 @@ use Rattle.checks.specs.Answered.{asked, answered, Checked, fitting}
 short : (l : List ℕ) → between 1 15 (length l) ≡ true → take 15 l ≡ l
 short l e = take-all 15 l (leb-true (length l) 15 (both (leb 1 (length l)) (leb (length l) 15) e .1))
 
-pub as-sent : (c : Call) (a s : List ℕ) (present : Bool) (d : List ℕ) → Pass (arguments (callOf c a s present d)) → asked c a s present d ≡ callOf c a s present d
+pub as-sent : (c : Call) (a s : List ℕ) (present : Bool) (d : List ℕ) → Pass (arguments (callOf c a s present d))
+    → asked c a s present d ≡ callOf c a s present d
 as-sent (call.Request sid sub) a s present d p = refl
 as-sent (call.DiagnosticSessionControl sub) a s present d p = refl
 as-sent (call.EcuReset sub) a s present d p = refl
@@ -93,7 +94,8 @@ Lies from to (fault f) = Unit {0}
 Lies from to (refused n) = Unit {0}
 
 -- The reply at a place, with the SID and the sub-function that a positive has.
-module _ (m quiet : Bool) (l : List ℕ) (place : Place) (c : calls.Call) (headed : head (withBit7 quiet (subOf c)) ≤ length (partOf l place .bytes)) where
+module _ (m quiet : Bool) (l : List ℕ) (place : Place) (c : calls.Call)
+    (headed : head (withBit7 quiet (subOf c)) ≤ length (partOf l place .bytes)) where
   reply-inside : place .at + length (partOf l place .bytes) ≤ length l
   reply-inside = part-inside l (place .at) (place .len) (partOf l place .bytes) refl (some-byte (withBit7 quiet (subOf c)) headed)
     where
@@ -115,22 +117,28 @@ module _ (m quiet : Bool) (l : List ℕ) (place : Place) (c : calls.Call) (heade
   unfolding checked
   checked-lies =
       let within = handed-within (place .at) (partOf l place .bytes) c in
-      judge-ind (Lies (place .at) (place .at + length (partOf l place .bytes))) fault (checks m c (partOf l place .bytes)) (positive (handed c (partOf l place))) (λ f. tt)
+      judge-ind (Lies (place .at) (place .at + length (partOf l place .bytes))) fault
+      (checks m c (partOf l place .bytes)) (positive (handed c (partOf l place))) (λ f. tt)
       (λ p. (within .from, within .to (begins p)))
 
-module _ (m quiet : Bool) (c : Call) (a s : List ℕ) (present : Bool) (d l : List ℕ) (place : Place) (sent : Pass (arguments (callOf c a s present d))) (headed : head (withBit7 quiet (subOf (callOf c a s present d))) ≤ length (partOf l place .bytes)) where
+module _ (m quiet : Bool) (c : Call) (a s : List ℕ) (present : Bool) (d l : List ℕ) (place : Place)
+    (sent : Pass (arguments (callOf c a s present d)))
+    (headed : head (withBit7 quiet (subOf (callOf c a s present d))) ≤ length (partOf l place .bytes)) where
   -- What `check` answers is what `rules` says of the reply.
   pub check-is : {r : Outcome} → Checked m c a s present l place r → outcomeOf l r ≡ checked m (callOf c a s present d) (partOf l place)
   check-is x = x .means d ∙ rw (as-sent c a s present d sent) (as-checked m quiet l place (callOf c a s present d) headed)
 
   -- The place of its data lies inside the reply's.
-  pub data-in-place : {p : Place} → Checked m c a s present l place (PositiveResponse p) → (place .at ≤ p .at) × (p .at + p .len ≤ place .at + place .len)
+  pub data-in-place : {p : Place} → Checked m c a s present l place (PositiveResponse p)
+      → (place .at ≤ p .at) × (p .at + p .len ≤ place .at + place .len)
   data-in-place {p} x =
-      let lies = subst (λ (o : rules.Outcome). Lies (place .at) (place .at + length (partOf l place .bytes)) o) (sym (check-is x)) (checked-lies m quiet l place (callOf c a s present d) headed) in
+      let found = checked-lies m quiet l place (callOf c a s present d) headed in
+      let lies = subst (λ (o : rules.Outcome). Lies (place .at) (place .at + length (partOf l place .bytes)) o) (sym (check-is x)) found in
       (lies .0, omega (arith, x .inside, length-take (p .len) (drop (p .at) l), length-drop (p .at) l, length-take (place .len) (drop (place .at) l)))
 
 -- The number of what is answered in the end fits, so that `number` is `rules`'. o: what the exchange says of the reply p.
-pub number-is : (m : Bool) (c : calls.Call) (o : rules.Outcome) (p : Part) → let z = ifPositive o (λ d. checked m c p) o in fitting (numberOf c z) ≡ numberOf c z
+pub number-is : (m : Bool) (c : calls.Call) (o : rules.Outcome) (p : Part)
+    → let z = ifPositive o (λ d. checked m c p) o in fitting (numberOf c z) ≡ numberOf c z
 unfolding checked
 number-is m c o p = go o
   where

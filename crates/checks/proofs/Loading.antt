@@ -30,7 +30,8 @@ module _ (m : Bool) (v : ℕ) where
       let more = high v e in
       rw (le-leb 3 v (omega arith), always m, le-ltb v (2 ^ 64) more)
 
-  pub under : (n : ℕ) (t : Bool) → numberOf v ≡ Value n → n < 2 ^ 64 → inStrict m (leb 3 n) ≡ t → cond t none (some (deviation 11)) ≡ firstOf last
+  pub under : (n : ℕ) (t : Bool) → numberOf v ≡ Value n → n < 2 ^ 64 → inStrict m (leb 3 n) ≡ t
+      → cond t none (some (deviation 11)) ≡ firstOf last
   under n t e h k =
       let same = told v n e in
       rw (same, k, lt-ltb n (2 ^ 64) h)

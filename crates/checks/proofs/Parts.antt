@@ -27,11 +27,13 @@ inner m (suc k) zero l = rw (take-nil {A = ℕ} m)
 inner m (suc k) (suc n) [] = rw (take-nil {A = ℕ} m)
 inner m (suc k) (suc n) (x ∷ l) = inner m k n l
 
-pub part-of-part : (m k n at : ℕ) (l : List ℕ) → take (length (take m (drop k (take n (drop at l))))) (drop (at + k) l) ≡ take m (drop k (take n (drop at l)))
+pub part-of-part : (m k n at : ℕ) (l : List ℕ)
+    → take (length (take m (drop k (take n (drop at l))))) (drop (at + k) l) ≡ take m (drop k (take n (drop at l)))
 part-of-part m k n at l = rw (← drop-drop k at l) (inner m k n (drop at l))
 
 module _ (i : ℕ) (a b : List ℕ) where
-  pub same-step : (t : Bool) → eqb (getD a i 0) (getD b i 0) ≡ t → i < length a → i < length b → same (drop i a) (drop i b) ≡ (t && same (drop (i + 1) a) (drop (i + 1) b))
+  pub same-step : (t : Bool) → eqb (getD a i 0) (getD b i 0) ≡ t → i < length a → i < length b
+      → same (drop i a) (drop i b) ≡ (t && same (drop (i + 1) a) (drop (i + 1) b))
   same-step t e h k = rw (drop-cons a i 0 h, drop-cons b i 0 k, add-one, e)
 
   pub same-end : length a ≤ i → length b ≤ i → same (drop i a) (drop i b) ≡ true

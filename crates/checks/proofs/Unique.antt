@@ -18,7 +18,8 @@ use Rattle.checks.specs.declared.types.Timing.{Timing}
 use Rattle.checks.specs.Answered.{Whatever, asked, answered, Checked, timed}
 
 -- `check`
-pub unique : {m : Bool} {call : Call} {a s : List ℕ} {present : Bool} {l : List ℕ} {place : Place} {r q : Outcome} → Checked m call a s present l place r → Checked m call a s present l place q → r ≡ q
+pub unique : {m : Bool} {call : Call} {a s : List ℕ} {present : Bool} {l : List ℕ} {place : Place} {r q : Outcome}
+    → Checked m call a s present l place r → Checked m call a s present l place q → r ≡ q
 unique {m} {call} {a} {s} {present} {l} {place} {r} {q} x y =
     let one : Settles r ≡ Settles q = looked-unique l {x = settles (answered l (checked m (asked call a s present []) (partOf l place)))}
     (record { means = ap settles (x .means []); inside = x .inside }) (record { means = ap settles (y .means []); inside = y .inside }) in
@@ -32,7 +33,8 @@ number-unique call f r q x y = x [] [] false [] ∙ sym (y [] [] false [])
 timing-back : (r : Timing) (x : settings.Timing) → timed r ≡ x → r ≡ record { p2 = x .p2; star = x .star }
 timing-back r x e = ap (λ (t : settings.Timing). record { p2 = t .p2; star = t .star }) e
 
-pub timing-unique : (call : Call) (f : calls.Call → settings.Timing) (r q : Timing) → Whatever call (λ c. timed r ≡ f c) → Whatever call (λ c. timed q ≡ f c) → r ≡ q
+pub timing-unique : (call : Call) (f : calls.Call → settings.Timing) (r q : Timing) → Whatever call (λ c. timed r ≡ f c)
+    → Whatever call (λ c. timed q ≡ f c) → r ≡ q
 timing-unique call f r q x y =
     let c = callOf call [] [] false [] in
     timing-back r (f c) (x [] [] false []) ∙ sym (timing-back q (f c) (y [] [] false []))

@@ -1,4 +1,4 @@
--- What the contracts say beside `rules`: how code's values stand for the definitions', where places lie, and what is answered where a definition's value does not fit the code's numbers.
+-- What the contracts say beside `rules`: where places lie, and what is answered where a definition's number does not fit the code's.
 use Prim.Native.Nat.{ℕ, _^_}
 use mathlib.Core.Bool.{Bool, cond}
 use mathlib.Core.Path.{_≡_}
@@ -24,7 +24,8 @@ use Rattle.checks.specs.declared.handed.Span.{Span}
 abbrev pub Whatever : Call → (calls.Call → Type 0) → Type 0
 Whatever c P = (a s : List ℕ) (present : Bool) (d : List ℕ) → P (callOf c a s present d)
 
--- The call that is checked. Of an address or a size the first 15 bytes count: no request has more (refusals 2 and 3), and "2 + both lengths" is then a number of 64 bits.
+-- The call that is checked. Of an address or a size the first 15 bytes count: no request has more (refusals 2 and 3).
+-- Call 6's "2 + both lengths" is then a number that the code has.
 abbrev pub asked : Call → List ℕ → List ℕ → Bool → List ℕ → calls.Call
 asked c a s present d = callOf c (take 15 a) (take 15 s) present d
 
@@ -32,18 +33,21 @@ asked c a s present d = callOf c (take 15 a) (take 15 s) present d
 abbrev pub lent : List ℕ → Part → Part
 lent replies p = cond (leb (p .at) (length replies)) p nowhere
 
--- The place that an outcome names; (0, 0) where it names none.
+abbrev pub noPlace : Place
+noPlace = record { at = 0; len = 0 }
+
+-- The place that an outcome names.
 abbrev pub placeOf : Outcome → Place
 placeOf (outcome.PositiveResponse p) = p
-placeOf outcome.Suppressed = record { at = 0; len = 0 }
-placeOf (outcome.NegativeResponse c) = record { at = 0; len = 0 }
-placeOf outcome.Timeout = record { at = 0; len = 0 }
-placeOf outcome.Disconnected = record { at = 0; len = 0 }
-placeOf (outcome.Transport n) = record { at = 0; len = 0 }
-placeOf (outcome.ProtocolDeviation d) = record { at = 0; len = 0 }
-placeOf outcome.InvalidResponseLength = record { at = 0; len = 0 }
-placeOf outcome.BlockLengthOverflow = record { at = 0; len = 0 }
-placeOf (outcome.Refused n) = record { at = 0; len = 0 }
+placeOf outcome.Suppressed = noPlace
+placeOf (outcome.NegativeResponse c) = noPlace
+placeOf outcome.Timeout = noPlace
+placeOf outcome.Disconnected = noPlace
+placeOf (outcome.Transport n) = noPlace
+placeOf (outcome.ProtocolDeviation d) = noPlace
+placeOf outcome.InvalidResponseLength = noPlace
+placeOf outcome.BlockLengthOverflow = noPlace
+placeOf (outcome.Refused n) = noPlace
 
 abbrev pub answered : List ℕ → rules.Outcome → rules.Outcome
 answered replies o = ifPositive o (λ p. positive (lent replies p)) o

@@ -62,10 +62,10 @@ pub fn handed(call: Call, replies: &[u8], place: Place) -> Place
     let skip = span.0;
     let count = span.1;
     if at > replies.len() {
-        return Place { at: 0, len: 0 };
+        return Place::NOWHERE;
     }
     if skip > replies.len() - at {
-        return Place { at: 0, len: 0 };
+        return Place::NOWHERE;
     }
     Place {
         at: at + skip,

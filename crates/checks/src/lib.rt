@@ -50,15 +50,15 @@ fn place_of(outcome: Outcome) -> Place
 {
     match outcome {
         Outcome::PositiveResponse(place) => place,
-        Outcome::Suppressed => Place { at: 0, len: 0 },
-        Outcome::NegativeResponse(_) => Place { at: 0, len: 0 },
-        Outcome::Timeout => Place { at: 0, len: 0 },
-        Outcome::Disconnected => Place { at: 0, len: 0 },
-        Outcome::Transport(_) => Place { at: 0, len: 0 },
-        Outcome::ProtocolDeviation(_) => Place { at: 0, len: 0 },
-        Outcome::InvalidResponseLength => Place { at: 0, len: 0 },
-        Outcome::BlockLengthOverflow => Place { at: 0, len: 0 },
-        Outcome::Refused(_) => Place { at: 0, len: 0 },
+        Outcome::Suppressed => Place::NOWHERE,
+        Outcome::NegativeResponse(_) => Place::NOWHERE,
+        Outcome::Timeout => Place::NOWHERE,
+        Outcome::Disconnected => Place::NOWHERE,
+        Outcome::Transport(_) => Place::NOWHERE,
+        Outcome::ProtocolDeviation(_) => Place::NOWHERE,
+        Outcome::InvalidResponseLength => Place::NOWHERE,
+        Outcome::BlockLengthOverflow => Place::NOWHERE,
+        Outcome::Refused(_) => Place::NOWHERE,
     }
 }
 

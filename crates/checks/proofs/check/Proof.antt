@@ -26,12 +26,16 @@ returns : tie.Need-returns
 returns c =
     let x = (c .before .before .before .before .before .before .before .before .before .args) in
     rw (c .outcome-of .ensures)
-    (check-failed (x .strict) (x .call) (x .address .now) (x .size .now) (x .present) (x .replies .now) (x .place) _ (c .before .before .before .before .before .part .ensures) _ (c .before .before .before .before .verdict .ensures) _ (c .before .before .fault .given .1))
+    (check-failed (x .strict) (x .call) (x .address .now) (x .size .now) (x .present) (x .replies .now) (x .place) _
+    (c .before .before .before .before .before .part .ensures) _
+    (c .before .before .before .before .verdict .ensures) _ (c .before .before .fault .given .1))
 
 returns-2 : tie.Need-returns-2
 returns-2 c =
     let x = (c .before .before .before .before .before .before .before .before .args) in
-    check-passed (x .strict) (x .call) (x .address .now) (x .size .now) (x .present) (x .replies .now) (x .place) _ (c .before .before .before .before .part .ensures) _ (c .before .before .before .verdict .ensures) (c .before .enum-told .given .1) _ (c .handed .ensures)
+    check-passed (x .strict) (x .call) (x .address .now) (x .size .now) (x .present) (x .replies .now) (x .place) _
+    (c .before .before .before .before .part .ensures) _ (c .before .before .before .verdict .ensures)
+    (c .before .enum-told .given .1) _ (c .handed .ensures)
 
 pub check-spec : {M : Type 1} → statement M
 check-spec =

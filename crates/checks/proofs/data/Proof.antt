@@ -12,7 +12,8 @@ part-requires : tie.Need-part-requires
 part-requires c κs = search needs
 
 returns : tie.Need-returns
-returns c = (c .part .ensures) ∙ rw (c .before .place-of .ensures) (place-bytes ((c .before .before .before .args .replies .now)) (c .before .before .before .args .outcome))
+returns c = (c .part .ensures) ∙ rw (c .before .place-of .ensures)
+    (place-bytes ((c .before .before .before .args .replies .now)) (c .before .before .before .args .outcome))
 
 pub data-spec : {M : Type 1} → statement M
 data-spec = tie.close (tie.spec place-of-requires part-requires returns)

@@ -14,12 +14,14 @@ numbered-requires c κs = search needs
 returns : tie.Need-returns
 returns c = λ a s present d.
     let x = (c .before .before .before .args) in
-    no-number (callOf (x .call) a s present d) (outcomeOf (x .replies .now) (x .outcome)) _ ((c .before .numbered .ensures) a s present d) (λ e. omega arith) (λ e. omega arith)
+    no-number (callOf (x .call) a s present d) (outcomeOf (x .replies .now) (x .outcome)) _
+    ((c .before .numbered .ensures) a s present d) (λ e. omega arith) (λ e. omega arith)
 
 returns-2 : tie.Need-returns-2
 returns-2 c = λ a s present d.
     let x = (c .before .before .before .before .args) in
-    no-number (callOf (x .call) a s present d) (outcomeOf (x .replies .now) (x .outcome)) _ ((c .before .before .numbered .ensures) a s present d) (λ e. omega arith) (λ e. omega arith)
+    no-number (callOf (x .call) a s present d) (outcomeOf (x .replies .now) (x .outcome)) _
+    ((c .before .before .numbered .ensures) a s present d) (λ e. omega arith) (λ e. omega arith)
 
 data-requires : tie.Need-data-requires
 data-requires c κs = search needs
@@ -36,12 +38,21 @@ enum-told c = search needs
 returns-3 : tie.Need-returns-3
 returns-3 c = λ a s present d.
     let x = (c .before .before .before .before .before .before .before .before .before .args) in
-    number-fits (callOf (x .call) a s present d) (outcomeOf (x .replies .now) (x .outcome)) _ ((c .before .before .before .before .before .before .before .numbered .ensures) a s present d) _ (c .before .before .before .before .«data» .ensures) (c .before .before .before .before .before .before .if1 .left) (c .before .before .before .before .before .if2 .left) _ (sym (c .before .before .before .block-length .ensures) ∙ (c .before .v .given .1)) (omega arith)
+    number-fits (callOf (x .call) a s present d) (outcomeOf (x .replies .now) (x .outcome)) _
+    ((c .before .before .before .before .before .before .before .numbered .ensures) a s present d) _
+    (c .before .before .before .before .«data» .ensures)
+    (c .before .before .before .before .before .before .if1 .left)
+    (c .before .before .before .before .before .if2 .left) _
+    (sym (c .before .before .before .block-length .ensures) ∙ (c .before .v .given .1)) (omega arith)
 
 returns-4 : tie.Need-returns-4
 returns-4 c = λ a s present d.
     let x = (c .before .before .before .before .before .before .before .before .args) in
-    number-over (callOf (x .call) a s present d) (outcomeOf (x .replies .now) (x .outcome)) _ ((c .before .before .before .before .before .before .numbered .ensures) a s present d) _ (c .before .before .before .«data» .ensures) (c .before .before .before .before .before .if1 .left) (c .before .before .before .before .if2 .left) (sym (c .before .before .block-length .ensures) ∙ (c .enum-told .given .1))
+    number-over (callOf (x .call) a s present d) (outcomeOf (x .replies .now) (x .outcome)) _
+    ((c .before .before .before .before .before .before .numbered .ensures) a s present d) _
+    (c .before .before .before .«data» .ensures) (c .before .before .before .before .before .if1 .left)
+    (c .before .before .before .before .if2 .left)
+    (sym (c .before .before .block-length .ensures) ∙ (c .enum-told .given .1))
 
 pub number-spec : {M : Type 1} → statement M
 number-spec =

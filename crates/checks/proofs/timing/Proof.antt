@@ -13,12 +13,15 @@ numbered-requires c κs = search needs
 returns : tie.Need-returns
 returns c = λ a s present d.
     let x = (c .before .before .before .args) in
-    timing-kept (callOf (x .call) a s present d) (outcomeOf (x .replies .now) (x .outcome)) _ ((c .before .numbered .ensures) a s present d) (c .if1 .taken) (x .server-timing) (x .p2) (x .star)
+    timing-kept (callOf (x .call) a s present d) (outcomeOf (x .replies .now) (x .outcome)) _
+    ((c .before .numbered .ensures) a s present d) (c .if1 .taken) (x .server-timing) (x .p2) (x .star)
 
 returns-2 : tie.Need-returns-2
 returns-2 c = λ a s present d.
     let x = (c .before .before .before .before .args) in
-    rw (not-true (x .server-timing) (c .if2 .taken)) (timing-off (callOf (x .call) a s present d) (outcomeOf (x .replies .now) (x .outcome)) _ ((c .before .before .numbered .ensures) a s present d) (c .before .if1 .left) (x .p2) (x .star))
+    rw (not-true (x .server-timing) (c .if2 .taken))
+    (timing-off (callOf (x .call) a s present d) (outcomeOf (x .replies .now) (x .outcome)) _
+    ((c .before .before .numbered .ensures) a s present d) (c .before .if1 .left) (x .p2) (x .star))
 
 data-requires : tie.Need-data-requires
 data-requires c κs = search needs
@@ -26,7 +29,9 @@ data-requires c κs = search needs
 returns-3 : tie.Need-returns-3
 returns-3 c = λ a s present d.
     let x = (c .before .before .before .before .before .before .args) in
-    let set = timing-set (callOf (x .call) a s present d) (outcomeOf (x .replies .now) (x .outcome)) _ ((c .before .before .before .before .numbered .ensures) a s present d) _ (c .before .«data» .ensures) (c .before .before .before .if1 .left) (x .p2) (x .star) in
+    let set = timing-set (callOf (x .call) a s present d) (outcomeOf (x .replies .now) (x .outcome)) _
+    ((c .before .before .before .before .numbered .ensures) a s present d) _ (c .before .«data» .ensures)
+    (c .before .before .before .if1 .left) (x .p2) (x .star) in
     rw (not-false (x .server-timing) (c .before .before .if2 .left), ← set, ne-eqb _ 4 (c .if3 .taken))
 
 u16-at-requires : tie.Need-u16-at-requires
@@ -47,8 +52,19 @@ mul-t15 c = search needs
 returns-4 : tie.Need-returns-4
 returns-4 c = λ a s present d.
     let x = (c .before .before .before .before .before .before .before .before .before .before .args) in
-    let set = timing-set (callOf (x .call) a s present d) (outcomeOf (x .replies .now) (x .outcome)) _ ((c .before .before .before .before .before .before .before .before .numbered .ensures) a s present d) _ (c .before .before .before .before .before .«data» .ensures) (c .before .before .before .before .before .before .before .if1 .left) (x .p2) (x .star) in
-    rw (not-false (x .server-timing) (c .before .before .before .before .before .before .if2 .left), ← set, eq-eqb _ 4 (c .before .before .before .before .if3 .left), (c .before .before .wide32 .ensures .0), (c .wide322 .ensures .0), (c .before .before .before .u16-at .ensures), (c .before .u16-at2 .ensures))
+    let set = timing-set (callOf (x .call) a s present d) (outcomeOf (x .replies .now) (x .outcome)) _
+    ((c .before .before .before .before .before .before .before .before .numbered .ensures) a s present d) _
+    (c .before .before .before .before .before .«data» .ensures)
+    (c .before .before .before .before .before .before .before .if1 .left) (x .p2) (x .star) in
+    rw (
+      not-false (x .server-timing) (c .before .before .before .before .before .before .if2 .left),
+      ← set,
+      eq-eqb _ 4 (c .before .before .before .before .if3 .left),
+      (c .before .before .wide32 .ensures .0),
+      (c .wide322 .ensures .0),
+      (c .before .before .before .u16-at .ensures),
+      (c .before .u16-at2 .ensures),
+    )
 
 pub timing-spec : {M : Type 1} → statement M
 timing-spec =

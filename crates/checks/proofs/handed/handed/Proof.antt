@@ -18,7 +18,8 @@ sub-if2 : tie.Need-sub-if2
 sub-if2 c = search needs
 
 returns-2 : tie.Need-returns-2
-returns-2 c = handed-nowhere _ _ _ _ (c .before .before .before .part .ensures) _ (c .before .before .hands-out .ensures) (omega arith)
+returns-2 c = handed-nowhere _ _ _ _ (c .before .before .before .part .ensures) _
+    (c .before .before .hands-out .ensures) (omega arith)
 
 add-t10 : tie.Need-add-t10
 add-t10 c = search needs
@@ -27,7 +28,8 @@ part-requires-2 : tie.Need-part-requires-2
 part-requires-2 c κs = search needs
 
 returns-3 : tie.Need-returns-3
-returns-3 c = handed-there _ _ _ _ (c .before .before .before .before .part .ensures) _ (c .before .before .before .hands-out .ensures) (omega arith) _ (c .part2 .ensures)
+returns-3 c = handed-there _ _ _ _ (c .before .before .before .before .part .ensures) _
+    (c .before .before .before .hands-out .ensures) (omega arith) _ (c .part2 .ensures)
 
 pub handed-spec : {M : Type 1} → statement M
 handed-spec =

@@ -21,7 +21,11 @@ returns-2 : tie.Need-returns-2
 returns-2 c =
     let test2 = c .before in
     let test1 = test2 .before .before in
-    rw (le-leb _ _ (test1 .if1 .left), sym (test2 .before .in-strict .ensures) ∙ not-true _ (test2 .if2 .taken), (c .length-error2 .ensures))
+    rw (
+      le-leb _ _ (test1 .if1 .left),
+      sym (test2 .before .in-strict .ensures) ∙ not-true _ (test2 .if2 .taken),
+      (c .length-error2 .ensures),
+    )
 
 returns-3 : tie.Need-returns-3
 returns-3 c =

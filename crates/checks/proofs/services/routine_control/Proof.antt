@@ -20,12 +20,20 @@ in-strict-requires c κs = search needs
 returns-2 : tie.Need-returns-2
 returns-2 c =
     let test1 = c .before .before .before in
-    rw (le-leb _ _ (test1 .if1 .left), ← (c .before .before .u16-at .ensures), sym (c .before .in-strict .ensures) ∙ not-true _ (c .if2 .taken))
+    rw (
+      le-leb _ _ (test1 .if1 .left),
+      ← (c .before .before .u16-at .ensures),
+      sym (c .before .in-strict .ensures) ∙ not-true _ (c .if2 .taken),
+    )
 
 returns-3 : tie.Need-returns-3
 returns-3 c =
     let test1 = c .before .before .before in
-    rw (le-leb _ _ (test1 .if1 .left), ← (c .before .before .u16-at .ensures), sym (c .before .in-strict .ensures) ∙ not-false _ (c .if2 .left))
+    rw (
+      le-leb _ _ (test1 .if1 .left),
+      ← (c .before .before .u16-at .ensures),
+      sym (c .before .in-strict .ensures) ∙ not-false _ (c .if2 .left),
+    )
 
 pub routine-control-spec : {M : Type 1} → statement M
 routine-control-spec =

@@ -34,7 +34,11 @@ shared-slice-read-if2-2 : tie.Need-shared-slice-read-if2-2 Inv-loop μ-loop
 shared-slice-read-if2-2 c = omega arith
 
 returns-2 : tie.Need-returns-2 Inv-loop μ-loop
-returns-2 c = sym (same-step (c .before .before .before .before .loop .i) (c .before .before .before .before .before .before .args .a .now) (c .before .before .before .before .before .before .args .b .now) false (ne-eqb _ _ (c .if2 .taken)) (omega arith) (omega arith)) ∙ (c .before .before .before .before .loop .inv .left)
+returns-2 c = sym
+    (same-step (c .before .before .before .before .loop .i)
+    (c .before .before .before .before .before .before .args .a .now)
+    (c .before .before .before .before .before .before .args .b .now) false (ne-eqb _ _ (c .if2 .taken)) (omega arith)
+    (omega arith)) ∙ (c .before .before .before .before .loop .inv .left)
 
 add-i : tie.Need-add-i Inv-loop μ-loop
 add-i c = omega arith
@@ -43,10 +47,19 @@ loop-less : tie.Need-loop-less Inv-loop μ-loop
 loop-less c = omega arith
 
 loop-again : tie.Need-loop-again Inv-loop μ-loop
-loop-again c = record { small = omega arith; left = sym (same-step (c .before .before .before .before .loop .i) (c .before .before .before .before .before .before .args .a .now) (c .before .before .before .before .before .before .args .b .now) true (eq-eqb _ _ (c .if2 .left)) (omega arith) (omega arith)) ∙ (c .before .before .before .before .loop .inv .left) }
+loop-again c = record {
+  small = omega arith;
+  left = sym
+      (same-step (c .before .before .before .before .loop .i)
+      (c .before .before .before .before .before .before .args .a .now)
+      (c .before .before .before .before .before .before .args .b .now) true (eq-eqb _ _ (c .if2 .left)) (omega arith)
+      (omega arith)) ∙ (c .before .before .before .before .loop .inv .left);
+}
 
 returns-3 : tie.Need-returns-3 Inv-loop μ-loop
-returns-3 c = sym (same-end (c .before .loop .i) (c .before .before .before .args .a .now) (c .before .before .before .args .b .now) (omega arith) (omega arith)) ∙ (c .before .loop .inv .left)
+returns-3 c = sym
+    (same-end (c .before .loop .i) (c .before .before .before .args .a .now) (c .before .before .before .args .b .now)
+    (omega arith) (omega arith)) ∙ (c .before .loop .inv .left)
 
 pub same-spec : {M : Type 1} → statement M
 same-spec =

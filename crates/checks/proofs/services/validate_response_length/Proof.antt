@@ -17,7 +17,11 @@ returns : tie.Need-returns
 returns c = rw (← (c .before .before .within .ensures), sym (c .before .in-strict .ensures) ∙ (c .if1 .taken))
 
 returns-2 : tie.Need-returns-2
-returns-2 c = rw (← (c .before .before .before .within .ensures), sym (c .before .before .in-strict .ensures) ∙ (c .before .if1 .left), (c .length-error .ensures))
+returns-2 c = rw (
+  ← (c .before .before .before .within .ensures),
+  sym (c .before .before .in-strict .ensures) ∙ (c .before .if1 .left),
+  (c .length-error .ensures),
+)
 
 pub validate-response-length-spec : {M : Type 1} → statement M
 validate-response-length-spec =

@@ -56,7 +56,14 @@ enum-told-5 : tie.Need-enum-told-5
 enum-told-5 c = search needs
 
 write-memory-by-address-requires : tie.Need-write-memory-by-address-requires
-write-memory-by-address-requires c κs = omega (arith, ap length (c .before .before .before .part .ensures) ∙ length-take 15 ((c .before .before .before .before .before .before .before .args .address .now)), ap length (c .before .before .part2 .ensures) ∙ length-take 15 ((c .before .before .before .before .before .before .before .args .size .now)))
+write-memory-by-address-requires c κs = omega (
+  arith,
+  ap length (c .before .before .before .part .ensures) ∙ length-take 15
+      ((c .before .before .before .before .before .before .before .args .address .now)),
+  ap length
+      (c .before .before .part2 .ensures) ∙ length-take 15
+      ((c .before .before .before .before .before .before .before .args .size .now)),
+)
 
 enum-known-call-3 : tie.Need-enum-known-call-3
 enum-known-call-3 c = search needs
@@ -113,25 +120,44 @@ returns-2 : tie.Need-returns-2
 returns-2 c = λ d. rw (c .before .enum-told2 .given .1) (c .validate-response-length .ensures)
 
 returns-3 : tie.Need-returns-3
-returns-3 c = λ d. rw ((c .before .before .before .call .given .1), eq-eqb _ 4 (c .before .if1 .taken)) (c .validate-response-length2 .ensures)
+returns-3 c = λ d. rw (
+  (c .before .before .before .call .given .1),
+  eq-eqb _ 4 (c .before .if1 .taken),
+) (c .validate-response-length2 .ensures)
 
 returns-4 : tie.Need-returns-4
-returns-4 c = λ d. rw ((c .before .before .before .call .given .1), ne-eqb _ 4 (c .before .if1 .left)) (c .validate-response-length3 .ensures)
+returns-4 c = λ d. rw (
+  (c .before .before .before .call .given .1),
+  ne-eqb _ 4 (c .before .if1 .left),
+) (c .validate-response-length3 .ensures)
 
 returns-5 : tie.Need-returns-5
-returns-5 c = λ d. rw ((c .before .before .before .call2 .given .1), eq-eqb _ 1 (c .before .if2 .taken)) (c .validate-response-length4 .ensures)
+returns-5 c = λ d. rw (
+  (c .before .before .before .call2 .given .1),
+  eq-eqb _ 1 (c .before .if2 .taken),
+) (c .validate-response-length4 .ensures)
 
 returns-6 : tie.Need-returns-6
-returns-6 c = λ d. rw ((c .before .before .before .call2 .given .1), ne-eqb _ 1 (c .before .if2 .left)) (c .validate-response-length5 .ensures)
+returns-6 c = λ d. rw (
+  (c .before .before .before .call2 .given .1),
+  ne-eqb _ 1 (c .before .if2 .left),
+) (c .validate-response-length5 .ensures)
 
 returns-7 : tie.Need-returns-7
 returns-7 c = λ d. rw (c .before .enum-told3 .given .1) (c .validate-response-length6 .ensures)
 
 returns-8 : tie.Need-returns-8
-returns-8 c = λ d. rw ((c .before .enum-told4 .given .1), ← (c .before .before .before .part2 .ensures)) (c .read-memory-by-address .ensures)
+returns-8 c = λ d. rw (
+  (c .before .enum-told4 .given .1),
+  ← (c .before .before .before .part2 .ensures),
+) (c .read-memory-by-address .ensures)
 
 returns-9 : tie.Need-returns-9
-returns-9 c = λ d. rw ((c .before .enum-told5 .given .1), ← (c .before .before .before .before .part .ensures), ← (c .before .before .before .part2 .ensures)) (c .write-memory-by-address .ensures)
+returns-9 c = λ d. rw (
+  (c .before .enum-told5 .given .1),
+  ← (c .before .before .before .before .part .ensures),
+  ← (c .before .before .before .part2 .ensures),
+) (c .write-memory-by-address .ensures)
 
 returns-10 : tie.Need-returns-10
 returns-10 c = λ d. rw (c .before .before .call3 .given .1) (c .identified .ensures)
@@ -152,10 +178,16 @@ returns-15 : tie.Need-returns-15
 returns-15 c = λ d. rw (c .before .enum-told8 .given .1) (c .request-download-upload2 .ensures)
 
 returns-16 : tie.Need-returns-16
-returns-16 c = λ d. rw ((c .before .before .before .call6 .given .1), (c .before .if3 .taken)) (c .transfer-data .ensures)
+returns-16 c = λ d. rw (
+  (c .before .before .before .call6 .given .1),
+  (c .before .if3 .taken),
+) (c .transfer-data .ensures)
 
 returns-17 : tie.Need-returns-17
-returns-17 c = λ d. rw ((c .before .before .before .call6 .given .1), (c .before .if3 .left)) (c .transfer-data2 .ensures)
+returns-17 c = λ d. rw (
+  (c .before .before .before .call6 .given .1),
+  (c .before .if3 .left),
+) (c .transfer-data2 .ensures)
 
 returns-18 : tie.Need-returns-18
 returns-18 c = λ d. rw (c .enum-told9 .given .1)

@@ -13,14 +13,25 @@ use Rattle.checks.proofs.services.write_memory_by_address.Statement.{st
 use Rattle.checks.proofs.services.write_memory_by_address.Tie as tie
 
 -- What the checks that have passed tell, each in the definition's words.
-length-right : (c : tie.Else1) → let x = c .before .before .before .before .before .before .args in exactly (x .strict) (2 + length (x .address .now) + length (x .size .now)) (x .reply .now) .test ≡ true
-length-right c = rw (← (c .before .before .within .ensures)) (sym (c .before .in-strict .ensures) ∙ not-false _ (c .if1 .left))
+length-right : (c : tie.Else1) → let x = c .before .before .before .before .before .before .args in exactly (x .strict)
+    (2 + length (x .address .now) + length (x .size .now)) (x .reply .now) .test ≡ true
+length-right c = rw (← (c .before .before .within .ensures))
+    (sym (c .before .in-strict .ensures) ∙ not-false _ (c .if1 .left))
 
-format-right : (c : tie.Else2) → let x = c .before .before .before .before .before .before .before .before .before .before .args in inStrict (x .strict) (eqb (getD (x .reply .now) 1 0) (length (x .size .now) * 16 + length (x .address .now))) ≡ true
-format-right c = rw (← (c .before .before .before .byte-at .ensures), ← (c .before .before .wide .ensures .0)) (sym (c .before .in-strict2 .ensures) ∙ not-false _ (c .if2 .left))
+format-right : (c : tie.Else2) →
+    let x = c .before .before .before .before .before .before .before .before .before .before .args in inStrict
+    (x .strict) (eqb (getD (x .reply .now) 1 0) (length (x .size .now) * 16 + length (x .address .now))) ≡ true
+format-right c = rw (
+  ← (c .before .before .before .byte-at .ensures),
+  ← (c .before .before .wide .ensures .0),
+) (sym (c .before .in-strict2 .ensures) ∙ not-false _ (c .if2 .left))
 
-address-right : (c : tie.Else3) → let x = c .before .before .before .before .before .before .before .before .before .before .before .before .before .before .args in inStrict (x .strict) (same (take (length (x .address .now)) (drop 2 (x .reply .now))) (x .address .now)) ≡ true
-address-right c = rw (← (c .before .before .before .part .ensures), ← (c .before .before .same .ensures)) (sym (c .before .in-strict3 .ensures) ∙ not-false _ (c .if3 .left))
+address-right : (c : tie.Else3) →
+    let x = c .before .before .before .before .before .before .before .before .before .before .before .before .before .before .args in inStrict (x .strict) (same (take (length (x .address .now)) (drop 2 (x .reply .now))) (x .address .now)) ≡ true
+address-right c = rw (
+  ← (c .before .before .before .part .ensures),
+  ← (c .before .before .same .ensures),
+) (sym (c .before .in-strict3 .ensures) ∙ not-false _ (c .if3 .left))
 
 add-total : tie.Need-add-total
 add-total c = search needs
@@ -38,7 +49,11 @@ length-error-requires : tie.Need-length-error-requires
 length-error-requires c κs = search needs
 
 returns : tie.Need-returns
-returns c = rw (← (c .before .before .before .within .ensures), sym (c .before .before .in-strict .ensures) ∙ not-true _ (c .before .if1 .taken), (c .length-error .ensures))
+returns c = rw (
+  ← (c .before .before .before .within .ensures),
+  sym (c .before .before .in-strict .ensures) ∙ not-true _ (c .before .if1 .taken),
+  (c .length-error .ensures),
+)
 
 byte-at-requires : tie.Need-byte-at-requires
 byte-at-requires c κs = search needs
@@ -56,7 +71,12 @@ in-strict-requires-2 : tie.Need-in-strict-requires-2
 in-strict-requires-2 c κs = search needs
 
 returns-2 : tie.Need-returns-2
-returns-2 c = rw (length-right (c .before .before .before .before), ← (c .before .before .before .byte-at .ensures), ← (c .before .before .wide .ensures .0), sym (c .before .in-strict2 .ensures) ∙ not-true _ (c .if2 .taken))
+returns-2 c = rw (
+  length-right (c .before .before .before .before),
+  ← (c .before .before .before .byte-at .ensures),
+  ← (c .before .before .wide .ensures .0),
+  sym (c .before .in-strict2 .ensures) ∙ not-true _ (c .if2 .taken),
+)
 
 part-requires : tie.Need-part-requires
 part-requires c κs = search needs
@@ -68,7 +88,13 @@ in-strict-requires-3 : tie.Need-in-strict-requires-3
 in-strict-requires-3 c κs = search needs
 
 returns-3 : tie.Need-returns-3
-returns-3 c = rw (length-right (c .before .before .before .before .before .before .before .before), format-right (c .before .before .before .before), ← (c .before .before .before .part .ensures), ← (c .before .before .same .ensures), sym (c .before .in-strict3 .ensures) ∙ not-true _ (c .if3 .taken))
+returns-3 c = rw (
+  length-right (c .before .before .before .before .before .before .before .before),
+  format-right (c .before .before .before .before),
+  ← (c .before .before .before .part .ensures),
+  ← (c .before .before .same .ensures),
+  sym (c .before .in-strict3 .ensures) ∙ not-true _ (c .if3 .taken),
+)
 
 rest-requires : tie.Need-rest-requires
 rest-requires c κs = search needs
@@ -83,10 +109,28 @@ in-strict-requires-4 : tie.Need-in-strict-requires-4
 in-strict-requires-4 c κs = search needs
 
 returns-4 : tie.Need-returns-4
-returns-4 c = rw (length-right (c .before .before .before .before .before .before .before .before .before .before .before .before .before), format-right (c .before .before .before .before .before .before .before .before .before), address-right (c .before .before .before .before .before), ← (c .before .before .before .before .rest .ensures), ← (c .before .before .before .rest2 .ensures), ← (c .before .before .same2 .ensures), sym (c .before .in-strict4 .ensures) ∙ not-true _ (c .if4 .taken))
+returns-4 c = rw (
+  length-right
+      (c .before .before .before .before .before .before .before .before .before .before .before .before .before),
+  format-right (c .before .before .before .before .before .before .before .before .before),
+  address-right (c .before .before .before .before .before),
+  ← (c .before .before .before .before .rest .ensures),
+  ← (c .before .before .before .rest2 .ensures),
+  ← (c .before .before .same2 .ensures),
+  sym (c .before .in-strict4 .ensures) ∙ not-true _ (c .if4 .taken),
+)
 
 returns-5 : tie.Need-returns-5
-returns-5 c = rw (length-right (c .before .before .before .before .before .before .before .before .before .before .before .before .before), format-right (c .before .before .before .before .before .before .before .before .before), address-right (c .before .before .before .before .before), ← (c .before .before .before .before .rest .ensures), ← (c .before .before .before .rest2 .ensures), ← (c .before .before .same2 .ensures), sym (c .before .in-strict4 .ensures) ∙ not-false _ (c .if4 .left))
+returns-5 c = rw (
+  length-right
+      (c .before .before .before .before .before .before .before .before .before .before .before .before .before),
+  format-right (c .before .before .before .before .before .before .before .before .before),
+  address-right (c .before .before .before .before .before),
+  ← (c .before .before .before .before .rest .ensures),
+  ← (c .before .before .before .rest2 .ensures),
+  ← (c .before .before .same2 .ensures),
+  sym (c .before .in-strict4 .ensures) ∙ not-false _ (c .if4 .left),
+)
 
 pub write-memory-by-address-spec : {M : Type 1} → statement M
 write-memory-by-address-spec =
