@@ -1,0 +1,2 @@
+// From a log to its line.
+pub mod outcome;

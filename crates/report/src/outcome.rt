@@ -1,0 +1,75 @@
+// The line of an answer: a word for each outcome, and its detail.
+use exchange::error::ProtocolDeviation;
+use exchange::types::Answer;
+use exchange::types::Outcome;
+use logs::text::Written;
+use logs::text::put_line;
+use wire::part;
+ghost use Rattle.rules.specs.Lines as lines;
+ghost use Rattle.exchange.specs.Meaning.{deviationOf, answerOf};
+ghost use Rattle.logs.specs.Text.{Wrote};
+ghost use Rattle.report.specs.Numbers.{Numbers};
+
+// "Deviations are numbered 1 to 15 in the order of `ProtocolDeviation`"
+fn number(deviation: ProtocolDeviation) -> u8
+    ensures { λ r. ⌜ Numbers (deviationOf deviation) r ⌝ }
+{
+    match deviation {
+        ProtocolDeviation::InvalidServiceId => 1,
+        ProtocolDeviation::InvalidRequestServiceId => 2,
+        ProtocolDeviation::InvalidSubFunction => 3,
+        ProtocolDeviation::UnexpectedPositiveResponse => 4,
+        ProtocolDeviation::InvalidDataIdentifier => 5,
+        ProtocolDeviation::InvalidRoutineIdentifier => 6,
+        ProtocolDeviation::InvalidBlockSequenceCounter => 7,
+        ProtocolDeviation::InvalidResponseLength(_, _) => 8,
+        ProtocolDeviation::InvalidLengthFormat => 9,
+        ProtocolDeviation::InvalidLengthFormatIdentifier => 10,
+        ProtocolDeviation::InvalidMaxNumberOfBlockLength => 11,
+        ProtocolDeviation::InvalidAddressAndLengthFormatIdentifier => 12,
+        ProtocolDeviation::InvalidMemoryAddress => 13,
+        ProtocolDeviation::InvalidMemorySize => 14,
+        ProtocolDeviation::InvalidMemoryRecordLength => 15,
+    }
+}
+
+// "outcome, finishing time, events read, notices, detail"; the answer's places are parts of the lent reply bytes.
+pub fn report(line: &mut [u8], answer: Answer, replies: &[u8]) -> Written
+    ensures { λ r. ⌜ Wrote (lines.line (answerOf (now (replies .entry)) answer)) (now (line .entry)) r (now (line .exit)) ⌝ }
+{
+    let outcome = answer.outcome;
+    let time = answer.time;
+    let events = answer.events as u64;
+    let notices = answer.notices as u64;
+    let place = answer.reply;
+    let reply = part(replies, place.at, place.len);
+    match outcome {
+        Outcome::PositiveResponse(data) => {
+            let bytes = part(replies, data.at, data.len);
+            put_line(line, b"positive", time, events, notices, b"", bytes)
+        }
+        Outcome::Suppressed => put_line(line, b"suppressed", time, events, notices, b"", b""),
+        Outcome::NegativeResponse(code) => {
+            put_line(line, b"negative", time, events, notices, &[code], b"")
+        }
+        Outcome::Timeout => put_line(line, b"timeout", time, events, notices, b"", b""),
+        Outcome::Disconnected => put_line(line, b"disconnected", time, events, notices, b"", b""),
+        Outcome::Transport(error) => {
+            let digits = [(error / 256) as u8, (error % 256) as u8];
+            put_line(line, b"transport", time, events, notices, &digits, b"")
+        }
+        Outcome::ProtocolDeviation(deviation) => {
+            let head = [number(deviation)];
+            put_line(line, b"deviation", time, events, notices, &head, reply)
+        }
+        Outcome::InvalidResponseLength => {
+            put_line(line, b"length", time, events, notices, b"", b"")
+        }
+        Outcome::BlockLengthOverflow => {
+            put_line(line, b"overflow", time, events, notices, b"", reply)
+        }
+        Outcome::Refused(refusal) => {
+            put_line(line, b"refused", time, events, notices, &[refusal], b"")
+        }
+    }
+}
