@@ -1,2 +1,3 @@
 -- The proofs of the functions, and the laws that they cite.
+pub mod Headers
 pub mod Reporting

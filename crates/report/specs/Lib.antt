@@ -1,2 +1,3 @@
 -- What the contracts of `report` cite besides `rules`.
+pub mod Asking
 pub mod Numbers

@@ -1,2 +1,3 @@
 // From a log to its line.
+mod asking;
 pub mod outcome;
