@@ -7,7 +7,7 @@ use mathlib.Core.Path.{_≡_, refl, sym, subst}
 use lib.Dec.{leb, eqb}
 use lib.ListN.{List·getD-eq-default}
 use borrow.Author.Tests.{leb-true, eq-eqb}
-use Rattle.rules.specs.Calls.{testerPresent, given}
+use Rattle.rules.specs.Calls.{testerPresent, Field}
 use Rattle.rules.specs.Logs.{Header, Uses, flag, usesOf, fieldsOk, some?, calls}
 use Rattle.rules.proofs.Judging.{both}
 use Rattle.requests.specs.Meaning.{dataOf}
@@ -43,8 +43,8 @@ module _ (h : Header) where
       eq-eqb (h .flags / 32 % 2) 1 (omega arith)
 
   -- No call has a number above 14.
-  pub no-call : (a s d : List ℕ) → 15 ≤ h .call → testerPresent ≡ chosen h a s d
-  no-call a s d k = sym (List·getD-eq-default (calls (h .value) (h .sub) _ (given a) (given s) _) testerPresent k)
+  pub no-call : (a s : Field) (d : List ℕ) → 15 ≤ h .call → testerPresent ≡ chosen h a s d
+  no-call a s d k = sym (List·getD-eq-default (calls (h .value) (h .sub) _ a s _) testerPresent k)
 
 -- A number that is none of the first k.
 abbrev pub NoneOf : ℕ → ℕ → Type 0

@@ -9,6 +9,7 @@ ghost use mathlib.Core.List.{List};
 ghost use mathlib.Core.Path.{_≡_};
 ghost use Prim.Native.Nat.{ℕ, _/_, _%_, _<_};
 ghost use lib.Dec.{eqb};
+ghost use Rattle.rules.specs.Calls.{given};
 ghost use Rattle.rules.specs.Logs as rules;
 ghost use Rattle.rules.specs.Logs.{usesOf, fieldsOk, some?};
 ghost use Rattle.exchange.specs.Meaning.{subOf, limitOf};
@@ -47,7 +48,7 @@ fn timeout_of(h: Header) -> RequestTimeout
 // "value u16 (SID, id, mask, counter, or compression × 256 + encryption)"; of calls 0, 9 and 13 it is a byte.
 fn call_of(h: Header) -> Call
     requires { ⌜ fieldsOk (said h) (usesOf (h .call)) ≡ true ⌝ }
-    ensures { λ r. ⌜ ((a s d : List ℕ) → callOf r a s (eqb (rules.flag 32 (said h)) 1) d ≡ chosen (said h) a s d) ⌝ }
+    ensures { λ r. ⌜ ((a s d : List ℕ) → callOf r a s (eqb (rules.flag 32 (said h)) 1) d ≡ chosen (said h) (given a) (given s) d) ⌝ }
 {
     let call = h.call;
     let value = h.value;
