@@ -1,0 +1,78 @@
+// A worked path from a download to its transfers: the block length that call 11 returned, the blocks cut, each sent by call 13 with its counter and answered.
+use blocks::Cut;
+use calls::Answered;
+use libc::STDOUT_FILENO;
+use logs::text::LONGEST;
+use logs::text::Written;
+use report::outcome::report;
+use uds::UDSClient;
+
+fn say(text: &[u8]) {
+    io::write_all(STDOUT_FILENO, text);
+}
+
+// The line of an answer.
+fn show(answered: Answered, replies: &[u8]) {
+    let mut line = [0u8; LONGEST];
+    let answer = answered.answer;
+    match report(&mut line, answer, replies) {
+        Written::Line(n) => say(wire::part(&line, 0, n)),
+        Written::NoRoom => {}
+    }
+}
+
+// Block k of the data, sent with its counter; the controller echoes it after 12 ms.
+fn transfer(client: UDSClient, data: &[u8], length: u64, k: u64) {
+    match blocks::counter(data, length, k) {
+        Cut::Counter(counter) => {
+            let block = blocks::block(data, length, k);
+            let mut request = [0u8; 64];
+            let events = [0, 0, 0, 12, 0, 0, 0, 0, 0, 2];
+            let replies = [0x76, counter];
+            let answered = client.transfer_data(
+                counter,
+                true,
+                block,
+                &mut request,
+                &events,
+                &replies,
+            );
+            say(b"block ");
+            io::print_decimal(STDOUT_FILENO, counter as u64);
+            say(b" ");
+            say(wire::part(&request, 2, block.len()));
+            say(b": ");
+            show(answered, &replies);
+        }
+        Cut::Refused(number) => {
+            say(b"no further block: refused ");
+            io::print_decimal(STDOUT_FILENO, number as u64);
+            say(b"\n");
+        }
+    }
+}
+
+fn main() {
+    let data = b"Bintrochis";
+    let client = UDSClient::new();
+    let mut request = [0u8; 64];
+    let events = [0, 0, 0, 10, 0, 0, 0, 0, 0, 3];
+    // the controller takes blocks of four bytes
+    let replies = [0x74, 0x10, 0x04];
+    let started = client.request_download(
+        0,
+        0,
+        &[0x20, 0x00],
+        &[0x0a],
+        &mut request,
+        &events,
+        &replies,
+    );
+    say(b"download: ");
+    show(started, &replies);
+    let length = started.number;
+    transfer(client, data, length, 0);
+    transfer(client, data, length, 1);
+    transfer(client, data, length, 2);
+    transfer(client, data, length, 3);
+}
