@@ -23,8 +23,8 @@ use Rattle.rules.proofs.Inside.{Headed, exchange-headed}
 use Rattle.rules.proofs.Judging.{Pass, judge-inv, pass-append}
 use Rattle.rules.proofs.Unrefused.{exchange-unrefused}
 use Rattle.exchange.specs.Guarded.{guarded}
-use Rattle.exchange.specs.Meaning.{partOf, outcomeOf, answerOf, askedOf, limitOf, subOf}
-use Rattle.exchange.specs.Places.{Inside, InsideOutcome, Answers}
+use Rattle.exchange.specs.Meaning.{partOf, outcomeOf, answerOf, askedOf, subOf}
+use Rattle.exchange.specs.Places.{Inside, Answers}
 use Rattle.exchange.specs.declared.types.Answer.{Answer}
 use Rattle.exchange.specs.declared.types.Place.{Place}
 use Rattle.requests.specs.Meaning.{callOf}
@@ -36,7 +36,7 @@ use Rattle.requests.proofs.Refusals as refusing
 use Rattle.checks.specs.Answered as checking
 use Rattle.checks.specs.Answered.{fitting}
 use Rattle.checks.proofs.Inside.{as-sent, as-checked, number-is}
-use Rattle.calls.specs.Concluded.{Rechecked, Concluded}
+use Rattle.calls.specs.Concluded.{Concluded}
 use Rattle.calls.specs.Meaning.{timingOf, settingOf, lentOf, resultOf, refusedOf, isRefused, Called}
 use Rattle.calls.specs.declared.Session.{Session}
 use Rattle.calls.specs.declared.Ask.{Ask}

@@ -1,7 +1,7 @@
 -- Of a whole call: at most one answer fits its contract, and demand 3 is carried to the code.
 use Prim.Native.Nat.{ℕ}
 use mathlib.Core.Bool.{Bool, true}
-use mathlib.Core.Path.{_≡_, refl, sym, _∙_, ap, subst, subst⁻¹}
+use mathlib.Core.Path.{_≡_, sym, _∙_, ap, subst⁻¹}
 use mathlib.Core.Logic.{_↔_}
 use mathlib.Core.List.{List}
 use mathlib.Core.Option.{none}
@@ -10,7 +10,7 @@ use Rattle.rules.specs.Calls.{Call}
 use Rattle.rules.specs.Client.{Result, eventsIn, call}
 use Rattle.rules.specs.Conversations.{Conversation}
 use Rattle.rules.specs.Demand3 as demand
-use Rattle.rules.specs.Settings.{Timing, Setting, Lent}
+use Rattle.rules.specs.Settings.{Setting, Lent}
 use Rattle.rules.proofs.Demand3.{demand3}
 use Rattle.exchange.specs.Meaning.{answerOf}
 use Rattle.exchange.specs.Places.{Answers}

@@ -1,19 +1,19 @@
 -- The `alfid` form: refusals 6 and 7 of the address, then of the size; behind them the call is that of the fields as bytes.
 use Prim.Native.Nat.{ℕ, _-_}
 use native.Mathlib.Omega.{arith}
-use mathlib.Core.Bool.{Bool, true, false, cond, not, false≢true, true≢false}
-use mathlib.Core.Path.{_≡_, refl, sym, _∙_, ap, ap₂, subst⁻¹}
+use mathlib.Core.Bool.{Bool, true, false, cond, false≢true, true≢false}
+use mathlib.Core.Path.{_≡_, refl, sym, _∙_, ap, ap₂}
 use mathlib.Core.List.{List, [], _++_}
 use lib.Dec.{eqb}
 use lib.ListN.{take, drop, replicate}
 use lib.Seq.{take-at}
-use borrow.Author.Tests.{eqb-true, eq-eqb, ne-eqb, not-true, not-false}
+use borrow.Author.Tests.{eqb-true, eq-eqb, ne-eqb}
 use Rattle.rules.specs.After.{checked}
 use Rattle.rules.specs.Bytes.{bytesOf}
 use Rattle.rules.specs.Calls as rules
 use Rattle.rules.specs.Calls.{Field, given, alfid, sent}
-use Rattle.rules.specs.Checks.{Check, judge}
-use Rattle.rules.specs.Client.{Result, refuse, call}
+use Rattle.rules.specs.Checks.{judge}
+use Rattle.rules.specs.Client.{refuse, call}
 use Rattle.rules.specs.Refusals.{width}
 use Rattle.rules.specs.Settings.{Setting, Lent}
 use Rattle.wire.specs.Memory.{memoryBytes, refused}

@@ -9,9 +9,9 @@ use lib.ListN.{length, getD, drop, length-drop}
 use lib.Seq.{length-take-le}
 use Rattle.rules.specs.Answers as rules
 use Rattle.rules.specs.Answers.{Part, nowhere, deviation, deviation8, badLength, overflow, positive, suppressed, negative, timeout, disconnected, transport, fault, refused}
-use Rattle.rules.specs.Events.{Entry, named}
+use Rattle.rules.specs.Events.{Entry}
 use Rattle.rules.specs.Exchange as exchange
-use Rattle.rules.specs.Exchange.{settled, turn}
+use Rattle.rules.specs.Exchange.{settled}
 use Rattle.exchange.specs.declared.error.Maximum.{Maximum}
 use Rattle.exchange.specs.declared.error.Maximum.the-variants as maximum
 use Rattle.exchange.specs.declared.error.ProtocolDeviation.{ProtocolDeviation}

@@ -1,19 +1,18 @@
 -- The counts, proved: by induction over the events, with what was read before them in front.
-use Prim.Native.Nat.{ℕ, _+_, _≤_, _<_}
+use Prim.Native.Nat.{ℕ, _+_}
 use native.Mathlib.Omega.{arith}
 use mathlib.Core.Bool.{Bool, true, false, cond}
-use mathlib.Core.Path.{_≡_, refl, sym, _∙_, ap, ap₂}
-use mathlib.Core.Logic.{_⊎_, inl, inr}
+use mathlib.Core.Path.{_≡_, refl, sym, _∙_, ap}
+use mathlib.Core.Logic.{inl, inr}
 use mathlib.Core.List.{List, [], _∷_, _++_, map}
-use mathlib.Core.Option.{none, some}
+use mathlib.Core.Option.{none}
 use lib.Dec.{leb, ltb, eqb}
 use lib.ListN.{length, getD}
-use borrow.Author.Tests.{leb-true, leb-false, le-leb, lt-leb}
-use Rattle.rules.specs.Answers.{Part, Fault, Outcome, positive, behind, lengthError, fault}
+use borrow.Author.Tests.{leb-false, le-leb, lt-leb}
+use Rattle.rules.specs.Answers.{Part, Fault, Outcome, positive, behind, lengthError}
 use Rattle.rules.specs.Calls.{head, suppresses}
-use Rattle.rules.specs.Checks.{Check, unless, judge}
-use Rattle.rules.specs.Conversations.{Every}
-use Rattle.rules.specs.Counts.{isPending, isNotice, passes, noticesIn, After, UpToSettling, Counted, Counts}
+use Rattle.rules.specs.Checks.{Check, judge}
+use Rattle.rules.specs.Counts.{isPending, isNotice, passes, noticesIn, After, UpToSettling, Counts}
 use Rattle.rules.specs.Events.{Event, reply, idle, ended, failed, timeOf, upTo}
 use Rattle.rules.specs.Exchange.{Asked, Step, pending, settles, wrong, refusing, coded, granting, look, Settled, silence, act, turn, settle, exchange}
 use Rattle.rules.proofs.Judging.{judge-ind}

@@ -1,30 +1,27 @@
 -- Demand 3, proved.
-use Prim.Native.Nat.{ℕ, _+_, _%_, _≤_, _<_, max}
+use Prim.Native.Nat.{ℕ, _+_, _%_, _<_, max}
 use native.Mathlib.Omega.{arith}
-use mathlib.Core.Bool.{Bool, true, false, cond, not, _&&_, true≢false}
+use mathlib.Core.Bool.{Bool, true, false, cond, true≢false}
 use mathlib.Core.Path.{_≡_, refl, sym, _∙_, ap, subst, subst⁻¹}
-use mathlib.Core.Logic.{_≢_, _⊎_, inl, inr, _↔_}
+use mathlib.Core.Logic.{_≢_, inl, inr, _↔_}
 use mathlib.Core.List.{List, [], _∷_, _++_, map}
 use mathlib.Core.Option.{Option, none, some}
-use lib.Dec.{leb, eqb}
 use lib.ListN.{length, getD}
 use borrow.Author.Tests.{leb-true, eqb-true, le-leb, eq-eqb, not-true}
 use Rattle.rules.specs.After.{checks, handed, checked, after}
-use Rattle.rules.specs.Answers.{Part, part, nowhere, behind, Fault, Outcome, positive, suppressed, negative, timeout, disconnected, transport, fault, refused, ifPositive, Answer, answer, refusal}
-use Rattle.rules.specs.Bytes.{every, isByte}
-use Rattle.rules.specs.Calls.{Call, request, session, reset, security, testerPresent, readMemory, writeMemory, readIdentifier, writeIdentifier, faultCount, routine, download, upload, transfer, transferExit, sidOf, subOf, withBit7, suppresses, positiveSid, head, requestOf}
-use Rattle.rules.specs.Checks.{Check, unless, judge}
+use Rattle.rules.specs.Answers.{Part, part, nowhere, behind, Fault, Outcome, positive, suppressed, negative, timeout, disconnected, transport, fault, refused, ifPositive, Answer, answer}
+use Rattle.rules.specs.Calls.{Call, request, session, reset, security, testerPresent, readMemory, writeMemory, readIdentifier, writeIdentifier, faultCount, routine, download, upload, transfer, transferExit, sidOf, subOf, withBit7, positiveSid, head, requestOf}
 use Rattle.rules.specs.Client.{Result, asked, eventsIn, refuse, answered, call}
-use Rattle.rules.specs.Conversations.{Waiting, Paced, Closing, refuses, grants, Closed, Silent, Conversation, Every}
+use Rattle.rules.specs.Conversations.{Closing, refuses, grants, Closed, Silent, Conversation, Every}
 use Rattle.rules.specs.Demand3.{Named, Refused, Answers, Demand3}
 use Rattle.rules.specs.Events.{Event, reply, timeOf, upTo}
-use Rattle.rules.specs.Exchange.{Asked, Settled, settles, echoing, granting, look, settle, counted, finish, exchange}
+use Rattle.rules.specs.Exchange.{Settled, settles, echoing, granting, look, settle, counted, finish, exchange}
 use Rattle.rules.specs.Refusals.{arguments, refusals}
 use Rattle.rules.specs.Settings.{Setting, Lent, suppressing}
-use Rattle.rules.proofs.Judging.{Pass, by-test, judge-pass, judge-inv, pass-append, append-pass}
+use Rattle.rules.proofs.Judging.{Pass, judge-pass, judge-inv, pass-append, append-pass}
 use Rattle.rules.proofs.Limits.{OfBytes, Sound, limits, every-mid}
-use Rattle.rules.proofs.Look.{Sane, sane, refused-form, negative-look, positive-look, coded-settles}
-use Rattle.rules.proofs.Rows.{Echo, Row, row-in, Fits, row-out}
+use Rattle.rules.proofs.Look.{sane, refused-form, negative-look, positive-look, coded-settles}
+use Rattle.rules.proofs.Rows.{Echo, row-in, Fits, row-out}
 use Rattle.rules.proofs.Settle.{Rising, still, reaches, hushes, Found, Hushed, found}
 
 -- The sub-function as sent has the caller's low seven bits.

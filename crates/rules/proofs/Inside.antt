@@ -1,21 +1,20 @@
 -- Data handed out begins inside the reply that it is handed out of, in either mode.
 use Prim.Native.Nat.{ℕ, _+_, _%_, _^_, _≤_, _<_}
 use native.Mathlib.Omega.{arith}
-use mathlib.Core.Bool.{Bool, true, false, cond, _&&_}
-use mathlib.Core.Path.{_≡_, refl}
-use mathlib.Core.List.{List, [], _∷_, _++_}
+use mathlib.Core.Bool.{Bool, true, false, cond}
+use mathlib.Core.List.{List, [], _∷_}
 use mathlib.Core.Option.{Option, none, some}
 use lib.Dec.{leb, ltb, eqb}
 use lib.ListN.{length, getD}
 use borrow.Author.Tests.{leb-true, ltb-true}
 use Rattle.rules.specs.After.{blockLength, checks, handed, first, numberOf}
-use Rattle.rules.specs.Answers.{Part, part, behind, nowhere, Fault, lengthError, Outcome, positive, suppressed, negative, timeout, disconnected, transport, fault, refused, Answer, answer}
+use Rattle.rules.specs.Answers.{Part, part, behind, nowhere, lengthError, Outcome, positive, suppressed, negative, timeout, disconnected, transport, fault, refused, answer}
 use Rattle.rules.specs.Bytes.{value}
 use Rattle.rules.specs.Calls.{Call, request, session, reset, security, testerPresent, readMemory, writeMemory, readIdentifier, writeIdentifier, faultCount, routine, download, upload, transfer, transferExit, subOf, withBit7, suppresses, head}
-use Rattle.rules.specs.Checks.{Check, unless, judge}
+use Rattle.rules.specs.Checks.{unless, judge}
 use Rattle.rules.specs.Events.{Event, reply, idle, ended, failed, timeOf, upTo}
 use Rattle.rules.specs.Exchange.{Asked, Step, pending, settles, wrong, refusing, coded, echoing, granting, byFirst, look, Settled, silence, act, turn, settle, counted, exchange}
-use Rattle.rules.proofs.Judging.{Pass, both, judge-ind, pass-append}
+use Rattle.rules.proofs.Judging.{Pass, judge-ind, pass-append}
 
 -- A positive reply has at least its SID and sub-function.
 abbrev pub Headed : Option ℕ → Part → Outcome → Type 0

@@ -1,19 +1,19 @@
 -- The layouts, proved: each row of document 01's table against the standard's.
-use Prim.Native.Nat.{ℕ, zero, suc, _+_, _*_, _/_, _%_, _^_, _≤_, _<_}
+use Prim.Native.Nat.{ℕ, zero, suc, _+_, _*_, _%_, _^_, _≤_, _<_}
 use native.Mathlib.Omega.{arith}
 use mathlib.Core.Bool.{Bool, true, false, cond, _&&_, false≢true}
-use mathlib.Core.Path.{_≡_, refl, sym, _∙_, ap, ap₂, subst}
+use mathlib.Core.Path.{_≡_, refl, sym, _∙_, ap, ap₂}
 use mathlib.Core.Logic.{_≢_, _↔_}
-use mathlib.Core.List.{List, [], _∷_, _++_, append-nil, append-assoc}
+use mathlib.Core.List.{List, [], _∷_, _++_}
 use mathlib.Core.Option.{Option, none, some}
 use lib.Dec.{leb, eqb}
 use lib.ListN.{length}
 use borrow.Author.Tests.{leb-true, leb-false, le-leb, eqb-true, eqb-false}
 use Rattle.rules.specs.Bytes.{value, bytesOf, two}
-use Rattle.rules.specs.Calls.{Call, request, session, reset, security, testerPresent, readMemory, writeMemory, readIdentifier, writeIdentifier, faultCount, routine, download, upload, transfer, transferExit, sent, memory, orNone, byte, withBit7, suppresses, positiveSid, requestOf}
+use Rattle.rules.specs.Calls.{Call, request, session, reset, security, testerPresent, readMemory, writeMemory, readIdentifier, writeIdentifier, faultCount, routine, download, upload, transfer, transferExit, orNone, byte, withBit7, suppresses, positiveSid, requestOf}
 use Rattle.rules.specs.Iso as Iso
 use Rattle.rules.specs.Layouts.{service, InRange, Recorded, Beyond, IsRow, Layouts}
-use Rattle.rules.specs.Positives.{Loading, Asking, Positive}
+use Rattle.rules.specs.Positives.{Loading, Asking}
 use Rattle.rules.specs.Settings.{Setting, suppressing}
 use Rattle.rules.proofs.Judging.{both}
 

@@ -1,12 +1,11 @@
 -- What "not refused" gives of the events: their times never fall, and every reply is of bytes.
-use Prim.Native.Nat.{ℕ, _+_, _*_, _/_, _%_, _≤_}
-use mathlib.Core.Bool.{Bool, true, false, cond, _&&_, false≢true}
-use mathlib.Core.Path.{_≡_, refl, sym, subst, subst⁻¹}
+use Prim.Native.Nat.{ℕ, _+_, _/_, _%_, _≤_}
+use mathlib.Core.Bool.{Bool, true, false, cond, _&&_}
+use mathlib.Core.Path.{_≡_, refl, subst⁻¹}
 use mathlib.Core.List.{List, [], _∷_, _++_, map}
 use lib.Dec.{leb, eqb}
 use lib.ListN.{length}
 use borrow.Author.Tests.{leb-true}
-use Rattle.rules.specs.Answers.{Part}
 use Rattle.rules.specs.Bytes.{every, isByte}
 use Rattle.rules.specs.Conversations.{Every}
 use Rattle.rules.specs.Events.{Entry, entries, Event, reply, idle, ended, failed, timeOf, named, eventOf, sound, rising, withinLimits}

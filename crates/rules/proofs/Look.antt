@@ -1,20 +1,18 @@
 -- One reply, strict: a notice, a negative and a positive are exactly what document 01 says they are.
-use Prim.Native.Nat.{ℕ, suc, _+_, _%_, _≤_, _<_}
+use Prim.Native.Nat.{ℕ, _<_}
 use native.Mathlib.Omega.{arith}
-use mathlib.Core.Bool.{Bool, true, false, cond, not, _&&_}
-use mathlib.Core.Path.{_≡_, refl, sym, _∙_, ap}
+use mathlib.Core.Bool.{Bool, true}
+use mathlib.Core.Path.{_≡_, refl, _∙_, ap}
 use mathlib.Core.Logic.{_≢_, _⊎_, inl, inr}
-use mathlib.Core.List.{List, [], _∷_, _++_}
-use mathlib.Core.Option.{Option, none, some}
-use lib.Bits.{bitOr}
+use mathlib.Core.List.{List, [], _∷_}
+use mathlib.Core.Option.{none}
 use lib.Dec.{leb, ltb, eqb}
-use lib.ListN.{length, getD, drop}
-use lib.Seq.{drop-cons}
-use borrow.Author.Tests.{leb-true, ltb-true, eqb-true, eqb-false, lt-ltb, le-leb, eq-eqb, ne-eqb, not-true, not-false}
-use Rattle.rules.specs.Answers.{Part, part, behind, Fault, deviation, lengthError, Outcome, positive, suppressed, negative, fault}
+use lib.ListN.{length, getD}
+use borrow.Author.Tests.{ltb-true, eqb-true, eqb-false, lt-ltb, eq-eqb, ne-eqb}
+use Rattle.rules.specs.Answers.{Part, part, behind, Fault, lengthError, Outcome, positive, negative}
 use Rattle.rules.specs.Calls.{head}
-use Rattle.rules.specs.Checks.{Check, unless, judge, inStrict}
-use Rattle.rules.specs.Exchange.{Asked, Step, pending, settles, wrong, refusing, coded, echoing, granting, byFirst, look}
+use Rattle.rules.specs.Checks.{unless}
+use Rattle.rules.specs.Exchange.{Asked, Step, pending, settles, wrong, refusing, coded, granting, look}
 use Rattle.rules.proofs.Judging.{Pass, by-test, both, judge-pass, judge-inv}
 
 -- The three bytes of a negative response.

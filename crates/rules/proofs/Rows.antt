@@ -1,20 +1,19 @@
 -- The table's rows, both ways: what passes a call's strict checks is the table's strict positive, and hands out its data; and back.
 use Prim.Native.Nat.{ℕ, suc, _+_, _-_, _*_, _/_, _%_, _^_, _≤_, _<_}
 use native.Mathlib.Omega.{arith}
-use mathlib.Core.Bool.{Bool, true, false, cond, not, _&&_}
+use mathlib.Core.Bool.{Bool, true, false, cond}
 use mathlib.Core.Path.{_≡_, refl, sym, _∙_, ap, ap₂, subst, subst⁻¹}
 use mathlib.Core.Logic.{_≢_, _⊎_, inl, inr}
 use mathlib.Core.List.{List, [], _∷_, _++_}
 use mathlib.Core.Option.{Option, none, some}
-use lib.Dec.{leb, ltb, eqb}
+use lib.Dec.{leb, eqb}
 use lib.ListN.{length, getD, take, drop, length-append, length-drop, take-append-drop}
 use lib.Seq.{drop-cons, take-all, take-append-seam, drop-append-seam}
-use borrow.Author.Tests.{leb-true, ltb-true, eqb-true, eqb-false, lt-ltb, le-leb, eq-eqb, ne-eqb}
-use Rattle.rules.specs.After.{bounds, exactly, atLeast, strictly, resetLength, transferLength, lengthBytes, blockLength, loading, checks, first, only, handed}
-use Rattle.rules.specs.Answers.{Part, part, behind, Fault}
-use Rattle.rules.specs.Bytes.{value, u16At, two, same, every, isByte}
+use borrow.Author.Tests.{leb-true, ltb-true, eqb-true, eqb-false, lt-ltb, le-leb, eq-eqb}
+use Rattle.rules.specs.After.{bounds, exactly, resetLength, transferLength, lengthBytes, blockLength, loading, checks, first, handed}
+use Rattle.rules.specs.Answers.{part, behind}
+use Rattle.rules.specs.Bytes.{value, u16At, two, every, isByte}
 use Rattle.rules.specs.Calls.{Call, request, session, reset, security, testerPresent, readMemory, writeMemory, readIdentifier, writeIdentifier, faultCount, routine, download, upload, transfer, transferExit, Field, sent, format, memory, sidOf, subOf, positiveSid}
-use Rattle.rules.specs.Checks.{Check, unless, inStrict}
 use Rattle.rules.specs.Demand3.{Named}
 use Rattle.rules.specs.Positives.{Loading, Asking, Positive}
 use Rattle.rules.proofs.Judging.{Pass, both}

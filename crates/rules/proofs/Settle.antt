@@ -1,5 +1,5 @@
 -- The strict exchange against the events alone: a waiting that closes in time is answered, and an answer comes of one; silence likewise.
-use Prim.Native.Nat.{ℕ, suc, _+_, _≤_, _<_}
+use Prim.Native.Nat.{ℕ, _+_, _≤_, _<_}
 use native.Mathlib.Omega.{arith}
 use mathlib.Core.Bool.{Bool, true, false, cond, false≢true}
 use mathlib.Core.Path.{_≡_, refl, sym, _∙_, ap, ap₂}
@@ -8,12 +8,11 @@ use mathlib.Core.List.{List, [], _∷_, _++_, map}
 use lib.Dec.{leb}
 use lib.ListN.{length}
 use borrow.Author.Tests.{leb-true, leb-false, le-leb, lt-leb}
-use Rattle.rules.specs.Answers.{Part, part, nowhere, Fault, Outcome, positive, suppressed, negative, timeout, disconnected, transport, fault, refused, Answer, answer}
+use Rattle.rules.specs.Answers.{Part, part, nowhere, Outcome, suppressed, answer}
 use Rattle.rules.specs.Conversations.{Waiting, none, idles, notice, Paced, IsIdle, Every}
 use Rattle.rules.specs.Demand3.{Answers}
 use Rattle.rules.specs.Events.{Event, reply, idle, ended, failed, timeOf, upTo}
 use Rattle.rules.specs.Exchange.{Asked, Step, pending, settles, Settled, settled, silence, finish, act, turn, settle, counted, look}
-use Rattle.rules.proofs.Judging.{by-test}
 use Rattle.rules.proofs.Look.{notice-look, look-notice}
 
 -- "Times in the list never fall."

@@ -1,11 +1,11 @@
 -- At most one conversation, and at least one of each kind, proved.
-use Prim.Native.Nat.{ℕ, _+_, _≤_, _<_}
+use Prim.Native.Nat.{ℕ, _≤_}
 use native.Mathlib.Omega.{arith}
-use mathlib.Core.Bool.{Bool, true, false}
+use mathlib.Core.Bool.{true}
 use mathlib.Core.Path.{_≡_, refl, sym, _∙_, ap, ap₂}
-use mathlib.Core.Logic.{_≢_, _⊎_, inl, inr}
+use mathlib.Core.Logic.{_≢_}
 use mathlib.Core.List.{List, [], _∷_, _++_}
-use lib.ListN.{length, getD}
+use lib.ListN.{getD}
 use Rattle.rules.specs.After.{checked}
 use Rattle.rules.specs.Answers.{Part, part, Outcome, Answer}
 use Rattle.rules.specs.Calls.{Call, sidOf}
@@ -14,7 +14,7 @@ use Rattle.rules.specs.Conversations.{Waiting, none, idles, notice, Pace
 use Rattle.rules.specs.Demand3.{Named, Refused}
 use Rattle.rules.specs.Events.{Event, reply, idle, timeOf, withinLimits, entriesFrom}
 use Rattle.rules.specs.Exchange.{look, settle, exchange}
-use Rattle.rules.specs.Settings.{Setting, Lent, suppressing}
+use Rattle.rules.specs.Settings.{Setting, Lent}
 use Rattle.rules.specs.Unique.{Unique, samples, Witnessed}
 use Rattle.rules.proofs.Demand3.{positive-first, complete, accepted, sound-events}
 use Rattle.rules.proofs.Rows.{row-out}

@@ -1,12 +1,11 @@
 -- Refusals come from the tests before the exchange alone: an exchange is never refused, in either mode.
 use Prim.Native.Nat.{ℕ}
 use mathlib.Core.Bool.{Bool, true, false, cond}
-use mathlib.Core.Path.{_≡_, refl, sym, subst}
 use mathlib.Core.List.{List, [], _∷_}
 use mathlib.Core.Option.{Option, none, some}
 use lib.Dec.{leb, ltb, eqb}
 use lib.ListN.{length, getD}
-use Rattle.rules.specs.Answers.{Part, nowhere, behind, Fault, lengthError, Outcome, positive, negative, timeout, fault, Answer, answer}
+use Rattle.rules.specs.Answers.{Part, nowhere, behind, Fault, lengthError, positive, negative, timeout, answer}
 use Rattle.rules.specs.Calls.{suppresses, head}
 use Rattle.rules.specs.Checks.{Check, unless, judge}
 use Rattle.rules.specs.Demand3.{Refused}

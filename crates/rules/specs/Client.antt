@@ -1,7 +1,7 @@
 -- A whole call: what it answers, and everything that it leaves.
 use Prim.Native.Nat.{ℕ}
 use mathlib.Core.Bool.{Bool}
-use mathlib.Core.List.{List, [], _∷_, _++_, map}
+use mathlib.Core.List.{List, _++_, map}
 use lib.ListN.{length, drop}
 use Rattle.rules.specs.After.{after, numberOf, timingOf}
 use Rattle.rules.specs.Answers.{Answer, refusal}

@@ -6,7 +6,6 @@ use mathlib.Core.Logic.{_⊎_}
 use mathlib.Core.List.{List, [], _∷_, _++_, map}
 use mathlib.Core.Option.{none, some}
 use lib.ListN.{length}
-use Rattle.rules.specs.Answers.{Answer}
 use Rattle.rules.specs.Conversations.{Every}
 use Rattle.rules.specs.Events.{Event, reply, idle, ended, failed, timeOf, upTo}
 use Rattle.rules.specs.Exchange.{Asked, Step, pending, settles, look, exchange}

@@ -2,13 +2,11 @@
 use mathlib.Core.Bool.{true}
 use mathlib.Core.Path.{_≡_}
 use mathlib.Core.Logic.{_↔_}
-use mathlib.Core.List.{List}
 use mathlib.Core.Option.{none}
 use Rattle.rules.specs.Answers.{Outcome, positive, suppressed, negative, timeout, disconnected, transport, fault, refused, Answer}
 use Rattle.rules.specs.Calls.{Call, request, session, reset, security, testerPresent, readMemory, writeMemory, readIdentifier, writeIdentifier, faultCount, routine, download, upload, transfer, transferExit}
 use Rattle.rules.specs.Client.{eventsIn, call}
 use Rattle.rules.specs.Conversations.{Conversation}
-use Rattle.rules.specs.Events.{Event}
 use Rattle.rules.specs.Settings.{Setting, Lent}
 
 -- One of the fourteen: any call but 0.

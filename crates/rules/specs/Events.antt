@@ -1,8 +1,8 @@
 -- Document 01, "Clock and events": an event list as it is lent, its limits, and the events that it says.
 use Prim.Native.Nat.{ℕ, zero, suc, _+_, _*_, _/_, _%_}
-use mathlib.Core.Bool.{Bool, true, false, cond, _&&_}
+use mathlib.Core.Bool.{Bool, true, cond, _&&_}
 use mathlib.Core.List.{List, [], _∷_}
-use lib.Dec.{leb, ltb, eqb}
+use lib.Dec.{leb, eqb}
 use lib.ListN.{length, take, drop}
 use Rattle.rules.specs.Answers.{Part, part}
 use Rattle.rules.specs.Bytes.{u16At, u32At, every, isByte}

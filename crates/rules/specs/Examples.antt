@@ -5,7 +5,7 @@ use mathlib.Core.Path.{_≡_}
 use mathlib.Core.List.{List, [], _∷_, _++_, map}
 use mathlib.Core.Option.{Option, none, some}
 use lib.ListN.{length, replicate}
-use Rattle.rules.specs.Answers.{Part, part, Fault, deviation, deviation8, overflow, Outcome, positive, suppressed, negative, timeout, fault}
+use Rattle.rules.specs.Answers.{part, deviation, deviation8, overflow, Outcome, positive, suppressed, negative, timeout, fault}
 use Rattle.rules.specs.Bytes.{bytesOf, two}
 use Rattle.rules.specs.Calls.{Call, request, reset, testerPresent, readMemory, readIdentifier, download, given}
 use Rattle.rules.specs.Client.{Result, call}

@@ -6,7 +6,7 @@ use Prim.Native.String as Text
 use mathlib.Core.Bool.{cond}
 use mathlib.Core.List.{List, [], _∷_, _++_}
 use lib.Dec.{ltb}
-use Rattle.rules.specs.Answers.{Part, Fault, deviation, deviation8, badLength, overflow, Outcome, positive, suppressed, negative, timeout, disconnected, transport, fault, refused, Answer}
+use Rattle.rules.specs.Answers.{deviation, deviation8, badLength, overflow, Outcome, positive, suppressed, negative, timeout, disconnected, transport, fault, refused, Answer}
 use Rattle.rules.specs.Bytes.{two}
 
 abbrev pub ascii : String → List ℕ

@@ -4,12 +4,12 @@ use Prim.Native.String.{String}
 use mathlib.Core.Bool.{Bool, true, false}
 use mathlib.Core.Path.{_≡_}
 use mathlib.Core.List.{List, [], _∷_, _++_, map}
-use mathlib.Core.Option.{Option, none, some}
+use mathlib.Core.Option.{none, some}
 use lib.ListN.{replicate}
-use Rattle.rules.specs.Answers.{part, nowhere, Fault, deviation, deviation8, badLength, overflow, Outcome, positive, suppressed, negative, timeout, disconnected, transport, fault, refused, Answer, answer, refusal}
-use Rattle.rules.specs.Calls.{Call, request, session, reset, security, readMemory, writeMemory, readIdentifier, writeIdentifier, faultCount, routine, download, transfer, given, alfid}
+use Rattle.rules.specs.Answers.{part, nowhere, Fault, deviation, deviation8, badLength, overflow, positive, suppressed, negative, timeout, disconnected, transport, fault, refused, Answer, answer, refusal}
+use Rattle.rules.specs.Calls.{Call, session, reset, security, readMemory, writeMemory, readIdentifier, writeIdentifier, faultCount, routine, download, transfer, given, alfid}
 use Rattle.rules.specs.Client.{call}
-use Rattle.rules.specs.Examples.{Said, lent, setting, usual, Gives, gives, told, Example, row, one, memoryOfNone, load}
+use Rattle.rules.specs.Examples.{lent, setting, usual, gives, told, Example, row, one, load}
 use Rattle.rules.specs.Lines.{ascii, line}
 use Rattle.rules.specs.Settings.{Setting}
 

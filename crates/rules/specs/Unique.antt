@@ -5,13 +5,13 @@ use mathlib.Core.Path.{_≡_}
 use mathlib.Core.List.{List, [], _∷_, _++_, map}
 use lib.ListN.{length}
 use Rattle.rules.specs.After.{numberOf}
-use Rattle.rules.specs.Answers.{Answer, answer, Part, part, nowhere, Outcome, positive, suppressed, negative}
+use Rattle.rules.specs.Answers.{Answer, answer, part, nowhere, positive, suppressed, negative}
 use Rattle.rules.specs.Calls.{Call, session, reset, security, testerPresent, readMemory, writeMemory, readIdentifier, writeIdentifier, faultCount, routine, download, upload, transfer, transferExit, given, sidOf, numbered}
 use Rattle.rules.specs.Client.{eventsIn, call}
 use Rattle.rules.specs.Conversations.{Closed, Silent, Conversation}
 use Rattle.rules.specs.Demand3.{Named, Refused}
 use Rattle.rules.specs.Events.{Event, reply}
-use Rattle.rules.specs.Examples.{lent, usual, Gives, gives, told}
+use Rattle.rules.specs.Examples.{lent, usual, gives, told}
 use Rattle.rules.specs.Positives.{Positive}
 use Rattle.rules.specs.Settings.{Setting, Lent, suppressing}
 use mathlib.Core.Option.{none, some}

@@ -1,7 +1,6 @@
 -- `calls::run` meets its contract: one law for each way that a call goes.
 use borrow.Author.Needs.{needs}
-use mathlib.Core.Path.{ap, sym, _∙_, subst}
-use borrow.Author.Tests.{not-true}
+use mathlib.Core.Path.{sym, _∙_, subst}
 use Rattle.calls.proofs.Running.{asks, turned-away, turned-by-events, carried-out}
 use Rattle.exchange.specs.Guarded.{guarded}
 use Rattle.exchange.specs.Meaning.{limitOf}

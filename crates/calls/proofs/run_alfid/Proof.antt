@@ -2,8 +2,6 @@
 use borrow.Author.Needs.{needs}
 use borrow.Author.Tests.{not-true, not-false}
 use mathlib.Core.Path.{sym, ap, _∙_}
-use Prim.Native.Nat.{ℕ}
-use mathlib.Core.List.{List}
 use lib.ListN.{take, drop}
 use Rattle.wire.specs.declared.MemoryBytes.{MemoryBytes}
 use Rattle.calls.specs.Meaning.{lentOf}

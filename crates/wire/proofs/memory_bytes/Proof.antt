@@ -1,5 +1,5 @@
 -- `wire::memory_bytes` meets its contract.
-use Prim.Native.Nat.{_+_, _-_, _/_, _^_, _≤_}
+use Prim.Native.Nat.{_-_, _/_, _^_, _≤_}
 use native.Mathlib.Omega.{arith}
 use native.Mathlib.Nat.{div-one}
 use mathlib.Core.List.{_++_}
