@@ -33,15 +33,15 @@ sound-fields l e =
     both (fieldsOk h (usesOf (h .call))) _ (number .1) .0
 
 -- What the call of a log answers, by its header.
-abbrev answerBy : List ℕ → Header → Answer
+abbrev pub answerBy : List ℕ → Header → Answer
 answerBy l h = call (eqb (flag 1 h) 1) (rules.settingOf h) (rules.callOf h l) (rules.lentOf h l) .answer
 
 module _ (l : List ℕ) where
-  line-bad : layoutOk l ≡ false → lineOf l ≡ badlog
+  pub line-bad : layoutOk l ≡ false → lineOf l ≡ badlog
   unfolding lineOf
   line-bad e = rw e
 
-  line-sound : layoutOk l ≡ true → lineOf l ≡ line (answerBy l (headerOf l))
+  pub line-sound : layoutOk l ≡ true → lineOf l ≡ line (answerBy l (headerOf l))
   unfolding lineOf
   line-sound e = rw e
 

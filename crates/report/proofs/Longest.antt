@@ -1,0 +1,266 @@
+-- No log has a longer line than `LONGEST` says, so a buffer of that length has room for every one.
+use Prim.Native.Nat.{ℕ, zero, suc, _+_, _*_, _/_, _%_, _≤_, _<_, max}
+use native.Mathlib.Omega.{arith}
+use mathlib.Core.Bool.{Bool, true, false, cond, _&&_}
+use mathlib.Core.List.{List, [], _∷_, _++_, map}
+use mathlib.Core.Option.{Option, none, some}
+use mathlib.Core.Path.{_≡_, refl, _∙_}
+use lib.Dec.{leb, ltb, eqb}
+use lib.ListN.{length, getD, drop, length-take, length-drop, length-map}
+use borrow.Author.Tests.{leb-true, leb-false, ltb-true, le-leb}
+use Rattle.rules.specs.After.{lengthBytes, checks, first, only, handed, checked, after}
+use Rattle.rules.specs.Answers.{Part, nowhere, behind, deviation, deviation8, badLength, overflow, Outcome, positive, suppressed, negative, timeout, disconnected, transport, fault, refused, ifPositive, Answer, answer, refusal}
+use Rattle.rules.specs.Bytes.{u16At, u32At, every, isByte}
+use Rattle.rules.specs.Calls.{Call, request, session, reset, security, testerPresent, readMemory, writeMemory, readIdentifier, writeIdentifier, faultCount, routine, download, upload, transfer, transferExit, head, requestOf, suppresses}
+use Rattle.rules.specs.Checks.{unless, judge}
+use Rattle.rules.specs.Client.{Result, asked, eventsIn, refuse, answered, call}
+use Rattle.rules.specs.Conversations.{Every}
+use Rattle.rules.specs.Events.{Entry, entryAt, entriesFrom, entries, Event, reply, idle, ended, failed, timeOf, named, eventOf, upTo, sound, rising, withinLimits}
+use Rattle.rules.specs.Exchange.{Asked, Step, pending, settles, look, Settled, settled, silence, waits, finish, act, turn, settle, counted, under, exchange}
+use Rattle.rules.specs.Lines.{ascii, word, detail, line, badlog}
+use Rattle.rules.specs.Logs as rules
+use Rattle.rules.specs.Logs.{Header, headerOf, flag, layoutOk, lineOf}
+use Rattle.rules.specs.Refusals.{arguments, refusals}
+use Rattle.rules.specs.Settings.{Setting, Lent}
+use Rattle.rules.proofs.Judging.{both, judge-ind, pass-append}
+use Rattle.exchange.proofs.Entries.{all-sound}
+use Rattle.logs.specs.Text.{Wrote, shown}
+use Rattle.logs.specs.declared.text.Written.{Written}
+use Rattle.logs.specs.declared.text.Written.the-variants.{Line}
+use Rattle.logs.proofs.Lines.{line-text, longest}
+use Rattle.logs.proofs.Numerals.{shown-fits}
+use Rattle.report.proofs.Answering.{line-bad, line-sound}
+
+-- 32 bits, and the latest deadline.
+abbrev most : ℕ
+most = 4294967295
+
+abbrev latest : ℕ
+latest = 8589934590
+
+-- An event within the limits.
+abbrev Short : Event → Type 0
+Short (reply t p) = (t ≤ most) × (length (p .bytes) ≤ 4095)
+Short (idle t) = t ≤ most
+Short (ended t) = t ≤ most
+Short (failed t n) = t ≤ most
+
+module _ (replies : List ℕ) where
+  short : (e : Entry) → sound replies e ≡ true → Short (eventOf replies e)
+  short e h = go (eqb (e .kind) 0) (eqb (e .kind) 1) (eqb (e .kind) 2) (both (leb (e .time) most) _ h .1)
+    where
+      early : e .time ≤ most
+      early = leb-true (e .time) most (both (leb (e .time) most) _ h .0)
+
+      go : (a b c : Bool)
+          → cond a (leb (e .size) 4095 && leb (e .offset + e .size) (length replies) && every isByte (named replies e .bytes)) (leb (e .kind) 3 && leb (e .size) 65535) ≡ true
+          → Short (cond a (reply (e .time) (named replies e)) (cond b (idle (e .time)) (cond c (ended (e .time)) (failed (e .time) (e .size)))))
+      go true b c k =
+          let size = both (leb (e .size) 4095) (leb (e .offset + e .size) (length replies)) (both (leb (e .size) 4095 && leb (e .offset + e .size) (length replies)) _ k .0) in
+          (early, simp (length-take, length-drop) (omega (arith, leb-true (e .size) 4095 (size .0))))
+      go false true c k = early
+      go false false true k = early
+      go false false false k = early
+
+  all-short : (es : List Entry) → every (sound replies) es ≡ true → Every Short (map (eventOf replies) es)
+  all-short [] h = tt
+  all-short (e ∷ es) h = let k = both (sound replies e) (every (sound replies) es) h in (short e (k .0), all-short es (k .1))
+
+count : (bs : List ℕ) (n i : ℕ) → length (entriesFrom bs n i) ≡ n
+unfolding entriesFrom
+count bs zero i = refl
+count bs (suc n) i = omega (arith, count bs n (suc i))
+
+few : (events replies : List ℕ) → withinLimits events replies ≡ true → length (entries events) ≤ 512
+unfolding withinLimits
+few events replies h =
+    let es = entries events in
+    let rises = both (eqb (length events % 10) 0 && leb (length events / 10) 512 && rising 0 es) _ h in
+    let counts = both (eqb (length events % 10) 0 && leb (length events / 10) 512) _ (rises .0) in
+    let small = both (eqb (length events % 10) 0) _ (counts .0) in
+    omega (arith, count events (length events / 10) 0, leb-true (length events / 10) 512 (small .1))
+
+-- What is left to read adds at most so many events and notices.
+record Bounded (events notices : ℕ) (s : Settled) : Type 0 where
+  time : s .time ≤ latest
+  events-most : length (s .events) ≤ events
+  notices-most : length (s .notices) ≤ notices
+  reply-most : length (s .reply .bytes) ≤ 4095
+
+grown : {i j i′ j′ : ℕ} {s : Settled} → i ≤ i′ → j ≤ j′ → Bounded i j s → Bounded i′ j′ s
+grown h k b = record {
+  time = b .time;
+  events-most = omega (arith, b .events-most);
+  notices-most = omega (arith, b .notices-most);
+  reply-most = b .reply-most;
+}
+
+module _ (m : Bool) (a : Asked) (p2 : a .p2 ≤ most) (star : a .star ≤ most) where
+  finishes : (b : Bool) (t : ℕ) → t ≤ most → cond b (max t (a .p2)) t ≤ latest
+  finishes true t h = omega arith
+  finishes false t h = omega arith
+
+  bounded : (e : List Event) → Every Short e → (hush : Bool) (d : ℕ) (es ns : List ℕ) → d ≤ latest
+      → Bounded (length es + length e) (length ns + length e) (settle m a e hush d es ns)
+  unfolding settle
+  bounded [] k hush d es ns h = record { time = h; events-most = omega arith; notices-most = omega arith; reply-most = omega arith }
+  bounded (x ∷ e) k hush d es ns h = go x (k .0) (leb (timeOf x) d) (bounded e (k .1))
+    where
+      On : Type 0
+      On = (q : Bool) (d′ : ℕ) (es′ ns′ : List ℕ) → d′ ≤ latest → Bounded (length es′ + length e) (length ns′ + length e) (settle m a e q d′ es′ ns′)
+
+      by-look : (t : ℕ) (p : Part) → t ≤ most → length (p .bytes) ≤ 4095 → (z : Step) → On
+          → Bounded (length es + suc (length e)) (length ns + suc (length e)) (act a t p (settle m a e) es ns z)
+      by-look t p ht hp pending on = grown (omega arith) (omega arith) (on false (t + a .star) (t ∷ es) (t ∷ ns) (omega arith))
+      by-look t p ht hp (settles o) on = record { time = finishes (waits o && suppresses (a .sub)) t ht; events-most = omega arith; notices-most = omega arith; reply-most = hp }
+
+      go : (x : Event) → Short x → (b : Bool) → On
+          → Bounded (length es + suc (length e)) (length ns + suc (length e)) (cond b (turn m a (settle m a e) x hush d es ns) (silence hush d es ns))
+      go (reply t p) s true on = by-look t p (s .0) (s .1) (look m a hush p) on
+      go (idle t) s true on = grown (omega arith) (omega arith) (on hush d (t ∷ es) ns h)
+      go (ended t) s true on = record { time = omega arith; events-most = omega arith; notices-most = omega arith; reply-most = omega arith }
+      go (failed t n) s true on = record { time = omega arith; events-most = omega arith; notices-most = omega arith; reply-most = omega arith }
+      go x s false on = record { time = h; events-most = omega arith; notices-most = omega arith; reply-most = omega arith }
+
+up-to : (limit : ℕ) (ts : List ℕ) → upTo limit ts ≤ length ts
+up-to limit [] = omega arith
+up-to limit (t ∷ ts) = go (leb t limit) (up-to limit ts)
+  where
+    go : (b : Bool) → upTo limit ts ≤ length ts → cond b 1 0 + upTo limit ts ≤ suc (length ts)
+    go true h = omega arith
+    go false h = omega arith
+
+-- The same of an answer.
+record Small (x : Answer) : Type 0 where
+  time : x .time ≤ latest
+  events : x .events ≤ 512
+  notices : x .notices ≤ 512
+  reply : length (x .reply .bytes) ≤ 4095
+
+under-small : (limit : Option ℕ) (s : Settled) → Bounded 512 512 s → Small (under limit s)
+under-small none s b = record { time = b .time; events = b .events-most; notices = b .notices-most; reply = b .reply-most }
+under-small (some t) s b = go (leb (s .time) t) refl
+  where
+    go : (q : Bool) → leb (s .time) t ≡ q → Small (cond q (counted s) (answer timeout t (upTo t (s .events)) (upTo t (s .notices)) nowhere))
+    go true e = record { time = b .time; events = b .events-most; notices = b .notices-most; reply = b .reply-most }
+    go false e = record {
+      time = omega (arith, leb-false (s .time) t e, b .time);
+      events = omega (arith, up-to t (s .events), b .events-most);
+      notices = omega (arith, up-to t (s .notices), b .notices-most);
+      reply = omega arith;
+    }
+
+-- Data is handed out of the reply.
+module _ (p : Part) where
+  behind-short : (k : ℕ) → length (behind k p .bytes) ≤ length (p .bytes)
+  behind-short k = simp length-drop (omega arith)
+
+  first-short : (n k : ℕ) → length (first n (behind k p) .bytes) ≤ length (p .bytes)
+  first-short n k = simp (length-take, length-drop) (omega arith)
+
+  only-short : (n k : ℕ) → length (only n (behind k p) .bytes) ≤ length (p .bytes)
+  only-short n k = first-short (cond (eqb (length (behind k p .bytes)) n) n 0) k
+
+  handed-short : (c : Call) → length (handed c p .bytes) ≤ length (p .bytes)
+  handed-short (request sid sub x) = behind-short (head sub)
+  handed-short (session sub) = only-short 4 2
+  handed-short (reset sub) = only-short 1 2
+  handed-short (security sub x) = go (eqb (sub % 2) 1)
+    where
+      go : (b : Bool) → length (cond b (behind 2 p) (first 0 (behind 2 p)) .bytes) ≤ length (p .bytes)
+      go true = behind-short 2
+      go false = first-short 0 2
+  handed-short testerPresent = first-short 0 2
+  handed-short (readMemory a s) = behind-short 1
+  handed-short (writeMemory a s x) = behind-short 1
+  handed-short (readIdentifier id) = behind-short 3
+  handed-short (writeIdentifier id x) = first-short 0 3
+  handed-short (faultCount mask) = first-short 4 2
+  handed-short (routine sub id x) = behind-short 4
+  handed-short (download c e a s) = first-short (lengthBytes (p .bytes)) 2
+  handed-short (upload c e a s) = first-short (lengthBytes (p .bytes)) 2
+  handed-short (transfer counter x) = behind-short 2
+  handed-short (transferExit x) = behind-short 1
+
+abbrev given : Outcome → List ℕ
+given o = ifPositive o (λ p. p .bytes) []
+
+checked-short : (m : Bool) (c : Call) (o : Outcome) (p : Part) → length (p .bytes) ≤ 4095 → length (given (ifPositive o (λ d. checked m c p) o)) ≤ 4095
+unfolding checked
+checked-short m c (positive d) p h =
+    judge-ind (λ q. length (given q) ≤ 4095) fault (checks m c (p .bytes)) (positive (handed c p)) (λ f. omega arith) (λ k. omega (arith, handed-short p c))
+checked-short m c suppressed p h = omega arith
+checked-short m c (negative n) p h = omega arith
+checked-short m c timeout p h = omega arith
+checked-short m c disconnected p h = omega arith
+checked-short m c (transport n) p h = omega arith
+checked-short m c (fault f) p h = omega arith
+checked-short m c (refused n) p h = omega arith
+
+-- The longest word and detail are a deviation's.
+wide : (o : Outcome) (r : List ℕ) → length (given o) ≤ 4095 → length r ≤ 4095 → length (ascii (word o)) + shown (length (detail o r)) ≤ 8201
+wide (positive p) r d h = omega (arith, shown-fits (length (p .bytes)) 8190 (omega arith) (omega arith))
+wide suppressed r d h = omega arith
+wide (negative c) r d h = omega arith
+wide timeout r d h = omega arith
+wide disconnected r d h = omega arith
+wide (transport n) r d h = omega arith
+wide (fault (deviation n)) r d h = omega arith
+wide (fault (deviation8 least most)) r d h = omega arith
+wide (fault badLength) r d h = omega arith
+wide (fault overflow) r d h = omega (arith, shown-fits (length r) 8190 (omega arith) (omega arith))
+wide (refused n) r d h = omega arith
+
+line-short : (x : Answer) → Small x → length (given (x .outcome)) ≤ 4095 → length (line x) ≤ 8222
+line-short x s d =
+    rw (line-text x)
+    (longest (ascii (word (x .outcome))) (detail (x .outcome) (x .reply .bytes)) (x .time) (x .events) (x .notices)
+    (wide (x .outcome) (x .reply .bytes) d (s .reply)) (omega (arith, s .time)) (omega (arith, s .events)) (omega (arith, s .notices)))
+
+module _ (m : Bool) (w : Setting) (c : Call) (l : Lent) (p2 : w .timing .p2 ≤ most) (star : w .timing .star ≤ most) where
+  heard : withinLimits (l .events) (l .replies) ≡ true → Small (exchange m (asked w c) (w .limit) (eventsIn l))
+  unfolding exchange
+  heard h =
+      let es = entries (l .events) in
+      let n : length (eventsIn l) ≤ 512 = simp length-map (few (l .events) (l .replies) h) in
+      let b = bounded m (asked w c) p2 star (eventsIn l) (all-short (l .replies) es (all-sound (l .events) (l .replies) h)) (suppresses (asked w c .sub)) (w .timing .p2) [] [] (omega arith) in
+      under-small (w .limit) _ (grown (omega arith) (omega arith) b)
+
+  call-short : length (line (call m w c l .answer)) ≤ 8222
+  unfolding call
+  call-short =
+      judge-ind (λ (x : Result). length (line (x .answer)) ≤ 8222) (refuse w l) (refusals c sent (l .buffer) (l .events) (l .replies)) (answered w c l sent (after m c x))
+      (λ n. line-short (refusal n) (record { time = omega arith; events = omega arith; notices = omega arith; reply = omega arith }) (omega arith))
+      (λ k. let s = heard (pass-append (arguments c) _ k .1 .1 .1 .0) in
+      line-short (after m c x) (record { time = s .time; events = s .events; notices = s .notices; reply = s .reply }) (checked-short m c (x .outcome) (x .reply) (s .reply)))
+    where
+      sent : List ℕ
+      sent = requestOf (w .quiet) c
+
+      x : Answer
+      x = exchange m (asked w c) (w .limit) (eventsIn l)
+
+byte-at : (l : List ℕ) (i : ℕ) → every isByte l ≡ true → getD l i 0 < 256
+byte-at [] i h = omega arith
+byte-at (b ∷ l) zero h = ltb-true b 256 (both (isByte b) (every isByte l) h .0)
+byte-at (b ∷ l) (suc i) h = byte-at l i (both (isByte b) (every isByte l) h .1)
+
+four-bytes : (l : List ℕ) (i : ℕ) → every isByte l ≡ true → u32At l i ≤ most
+four-bytes l i h = omega (arith, byte-at l i h, byte-at l (i + 1) h, byte-at l (i + 2) h, byte-at l (i + 2 + 1) h)
+
+module _ (l : List ℕ) (bytes : every isByte l ≡ true) where
+  pub line-fits : length (lineOf l) ≤ 8222
+  line-fits = go (layoutOk l) refl
+    where
+      go : (b : Bool) → layoutOk l ≡ b → length (lineOf l) ≤ 8222
+      go true e =
+          let h = headerOf l in
+          rw (line-sound l e) (call-short (eqb (flag 1 h) 1) (rules.settingOf h) (rules.callOf h l) (rules.lentOf h l) (four-bytes l 24 bytes) (four-bytes l 28 bytes))
+      go false e = rw (line-bad l e) (omega arith)
+
+  -- In a buffer of that length the line always stands.
+  pub always-room : {before after : List ℕ} {r : Written} → 8222 ≤ length before → Wrote (lineOf l) before r after
+      → (r ≡ Line (length (lineOf l))) × (after ≡ lineOf l ++ drop (length (lineOf l)) before)
+  always-room {before = before} h w =
+      let fits = le-leb (length (lineOf l)) (length before) (omega (arith, line-fits)) in
+      (w .answer ∙ rw fits, w .line ∙ rw fits)
