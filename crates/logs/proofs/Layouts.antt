@@ -10,7 +10,7 @@ use lib.ListN.{length, getD, drop, drop-of-length-le}
 use lib.Seq.{drop-cons}
 use Rattle.rules.specs.Bytes.{u16At, every}
 use Rattle.rules.specs.Events.{entryAt, entriesFrom, entries}
-use Rattle.rules.specs.Logs.{Header, Uses, headerOf, usesOf, all, fieldsOk, areasOk, eventOk, eventBytes, layoutOk, dataOf, flag, some?}
+use Rattle.rules.specs.Logs.{Header, headerOf, usesOf, all, fieldsOk, areasOk, eventOk, eventBytes, layoutOk, dataOf, flag, some?}
 use Rattle.logs.specs.declared.header.Header as Code
 use Rattle.logs.specs.Layout.{said, entry, dataBytes}
 
@@ -53,11 +53,11 @@ sound l h =
     areasOk h (length l) ∷
     every eventOk (entries (eventBytes h l)) ∷ [])
 
-pub decided : (l bs : List ℕ) (h : Header) (u : Uses) {p q r : Bool} →
-    h ≡ headerOf l → u ≡ usesOf (h .call) → p ≡ fieldsOk h u → q ≡ areasOk h (length l) → bs ≡ eventBytes h l → r ≡ every eventOk (entries bs) →
+pub decided : (l bs : List ℕ) (h : Header) {p q r : Bool} →
+    h ≡ headerOf l → p ≡ fieldsOk h (usesOf (h .call)) → q ≡ areasOk h (length l) → bs ≡ eventBytes h l → r ≡ every eventOk (entries bs) →
     all (leb 36 (length l) ∷ eqb (h .version) 1 ∷ leb (h .call) 14 ∷ p ∷ q ∷ r ∷ []) ≡ layoutOk l
 unfolding layoutOk
-decided l bs h u eh eu ep eq eb er = rw (ep, eq, er, eb, eu) (ap (sound l) eh)
+decided l bs h eh ep eq eb er = rw (ep, eq, er, eb) (ap (sound l) eh)
 
 pub data-bytes : (h : Header) (l : List ℕ) → dataOf h l ≡ some? (eqb (flag 32 h) 1) (dataBytes h l)
 data-bytes h l = refl

@@ -83,6 +83,13 @@ fn fields_ok(h: Header, u: Uses) -> bool
     all(&tests)
 }
 
+// Whether every field suits the header's call.
+pub fn suits(h: Header) -> bool
+    ensures { λ r. ⌜ r ≡ fieldsOk (said h) (usesOf (h .call)) ⌝ }
+{
+    fields_ok(h, uses_of(h.call))
+}
+
 // "The areas follow in that order, no gaps", in a log of n bytes.
 fn areas_fit(
     arguments: u16,
@@ -210,7 +217,7 @@ pub fn layout_ok(log: &[u8]) -> bool
         36 <= log.len(),
         h.version == 1,
         h.call <= 14,
-        fields_ok(h, uses_of(h.call)),
+        suits(h),
         areas_ok(h, log.len()),
         events_ok(events_of(log, h)),
     ];

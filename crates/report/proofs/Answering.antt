@@ -21,7 +21,7 @@ use Rattle.logs.specs.Layout.{dataBytes}
 use Rattle.logs.specs.Text.{Wrote, text}
 use Rattle.logs.specs.declared.text.Written.{Written}
 use Rattle.logs.proofs.Lines.{badlog-text}
-use Rattle.report.specs.Asking.{chosen, sessionOf, Asks}
+use Rattle.asking.specs.Asking.{chosen, sessionOf, Asks}
 
 pub sound-fields : (l : List ℕ) → layoutOk l ≡ true → fieldsOk (headerOf l) (usesOf (headerOf l .call)) ≡ true
 unfolding layoutOk
@@ -60,5 +60,5 @@ pub answered : (l : List ℕ) (h : Header) {ask : Ask} {a s d es rs : List ℕ} 
     Called (ask .strict) (settingOf ask (sessionOf h)) (callOf (ask .call) a s (ask .present) d) (lentOf (replicate 4095 0) es rs) r buffer →
     answerOf rs (r .answer) ≡ answerBy l h
 answered l h {ask = ask} {a = a} {s = s} {d = d} k address size bytes events replies c =
-    let said : callOf (ask .call) a s (ask .present) d ≡ rules.callOf h l = k .call a s d ∙ (λ i. chosen h (address i) (size i) (bytes i)) in
+    let said : callOf (ask .call) a s (ask .present) d ≡ rules.callOf h l = k .call (given a) (given s) d ∙ (λ i. chosen h (address i) (size i) (bytes i)) in
     ap (λ (x : Result). x .answer) (c .means ∙ (λ i. call (k .strict i) (k .setting i) (said i) (lentOf (replicate 4095 0) (events i) (replies i))))

@@ -1,5 +1,4 @@
 -- The proofs of the functions, and the laws that they cite.
 pub mod Answering
-pub mod Headers
 pub mod Longest
 pub mod Reporting

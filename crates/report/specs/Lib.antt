@@ -1,3 +1,2 @@
 -- What the contracts of `report` cite besides `rules`.
-pub mod Asking
 pub mod Numbers

@@ -1,4 +1,5 @@
 // From a log to its line.
+use asking::Asked;
 use asking::ask_of;
 use calls::Session;
 use logs::layout::address_of;
@@ -14,7 +15,6 @@ use outcome::report;
 ghost use Rattle.rules.specs.Logs.{lineOf};
 ghost use Rattle.logs.specs.Text.{Wrote};
 
-mod asking;
 pub mod outcome;
 
 // The line that `udslog` prints of a log, at the front of a lent buffer.
@@ -29,7 +29,10 @@ pub fn answer(log: &[u8], line: &mut [u8]) -> Written
         p2: h.p2,
         star: h.star,
     };
-    let ask = ask_of(h);
+    let Asked::Sound(ask) = ask_of(h) else {
+        // of no sound layout
+        return put_line(line, b"badlog", 0, 0, 0, b"", b"");
+    };
     let address = address_of(log, h);
     let size = size_of(log, h);
     let data = data_of(log, h);

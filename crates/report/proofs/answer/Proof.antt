@@ -1,11 +1,13 @@
 -- `report::answer` meets its contract.
-use Prim.Native.Nat.{ℕ}
-use mathlib.Core.Bool.{true}
+use mathlib.Core.Bool.{true, true≢false}
 use mathlib.Core.List.{List}
-use mathlib.Core.Path.{_≡_, _∙_, sym, subst⁻¹}
+use mathlib.Core.Path.{_≡_, _∙_, sym, subst, subst⁻¹}
+use Prim.Native.Nat.{ℕ}
 use borrow.Author.Tests.{not-true, not-false}
 use Rattle.rules.specs.Logs.{Header, usesOf, fieldsOk, layoutOk}
 use Rattle.logs.specs.Layout.{said}
+use Rattle.asking.specs.Asking.{AskedBy}
+use Rattle.asking.specs.declared.Asked.{Asked}
 use Rattle.report.proofs.Answering.{sound-fields, bad, sound, answered}
 use borrow.Author.Needs.{needs}
 use Rattle.report.proofs.answer.Statement.{statement}
@@ -45,8 +47,38 @@ read-header-requires : tie.Need-read-header-requires
 read-header-requires c κs = search needs
 
 ask-of-requires : tie.Need-ask-of-requires
-ask-of-requires c κs =
-    subst⁻¹ (λ (h : Header). fieldsOk h (usesOf (h .call)) ≡ true) (c .read-header .ensures) (sound-fields (log (c .before .before)) (is-sound (c .before)))
+ask-of-requires c κs = search needs
+
+enum-known-ask : tie.Need-enum-known-ask
+enum-known-ask c = search needs
+
+enum-told : tie.Need-enum-told
+enum-told c = search needs
+
+slice-aggregate-put-line-4 : tie.Need-slice-aggregate-put-line-4
+slice-aggregate-put-line-4 c = search needs
+
+slice-aggregate-put-line-5 : tie.Need-slice-aggregate-put-line-5
+slice-aggregate-put-line-5 c = search needs
+
+slice-aggregate-put-line-6 : tie.Need-slice-aggregate-put-line-6
+slice-aggregate-put-line-6 c = search needs
+
+put-line-requires-2 : tie.Need-put-line-requires-2
+put-line-requires-2 c κs = search needs
+
+same-length-2 : tie.Need-same-length-2
+same-length-2 c = search needs
+
+returns-2 : tie.Need-returns-2
+returns-2 c =
+    let told = c .before .before .before .before .before .before .before in
+    let ask = told .before .before in
+    let header = ask .before in
+    let left = header .before in
+    let suited = subst⁻¹ (λ (h : Header). fieldsOk h (usesOf (h .call)) ≡ true) (header .read-header .ensures) (sound-fields (log (left .before)) (is-sound left)) in
+    let unsuited = subst (λ (x : Asked). AskedBy (said (header .read-header .result)) x) (told .enum-told .given .1) (ask .ask-of .ensures) in
+    absurd (true≢false (sym suited ∙ unsuited))
 
 address-of-requires : tie.Need-address-of-requires
 address-of-requires c κs = search needs
@@ -72,23 +104,25 @@ run-requires c κs = search needs
 report-requires : tie.Need-report-requires
 report-requires c κs = search needs
 
-same-length-2 : tie.Need-same-length-2
-same-length-2 c = search needs
+same-length-3 : tie.Need-same-length-3
+same-length-3 c = search needs
 
-returns-2 : tie.Need-returns-2
-returns-2 c =
+returns-3 : tie.Need-returns-3
+returns-3 c =
     let ran = c .before .before .before .before .before in
     let replies = ran .before .before in
     let events = replies .before in
     let bytes = events .before in
     let size = bytes .before in
     let address = size .before in
-    let ask = address .before in
+    let told = address .before .before in
+    let ask = told .before .before in
     let header = ask .before in
     let left = header .before in
     let l = log (left .before) in
+    let asks = subst (λ (x : Asked). AskedBy (said (header .read-header .result)) x) (told .ask .given .1) (ask .ask-of .ensures) .1 in
     sound l (is-sound left) (header .read-header .ensures)
-    (answered l (said (header .read-header .result)) (ask .ask-of .ensures) (address .address-of .ensures) (size .size-of .ensures) (bytes .data-of .ensures) (events .events-of .ensures) (replies .replies-of .ensures) (ran .run .ensures))
+    (answered l (said (header .read-header .result)) asks (address .address-of .ensures) (size .size-of .ensures) (bytes .data-of .ensures) (events .events-of .ensures) (replies .replies-of .ensures) (ran .run .ensures))
     (c .before .before .report .ensures)
 
 pub answer-spec : {M : Type 1} → statement M
@@ -104,6 +138,14 @@ answer-spec =
     returns
     read-header-requires
     ask-of-requires
+    enum-known-ask
+    enum-told
+    slice-aggregate-put-line-4
+    slice-aggregate-put-line-5
+    slice-aggregate-put-line-6
+    put-line-requires-2
+    same-length-2
+    returns-2
     address-of-requires
     size-of-requires
     data-of-requires
@@ -112,5 +154,5 @@ answer-spec =
     slice-aggregate-run
     run-requires
     report-requires
-    same-length-2
-    returns-2)
+    same-length-3
+    returns-3)

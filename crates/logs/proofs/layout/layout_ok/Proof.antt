@@ -1,6 +1,6 @@
 -- `layout::layout_ok` meets its contract.
 use mathlib.Core.Path.{_∙_}
-use Rattle.logs.specs.Layout.{said, meant}
+use Rattle.logs.specs.Layout.{said}
 use Rattle.logs.proofs.Layouts.{decided}
 use borrow.Author.Needs.{needs}
 use Rattle.logs.proofs.layout.layout_ok.Statement.{statement}
@@ -9,11 +9,8 @@ use Rattle.logs.proofs.layout.layout_ok.Tie as tie
 read-header-requires : tie.Need-read-header-requires
 read-header-requires c κs = search needs
 
-uses-of-requires : tie.Need-uses-of-requires
-uses-of-requires c κs = search needs
-
-fields-ok-requires : tie.Need-fields-ok-requires
-fields-ok-requires c κs = search needs
+suits-requires : tie.Need-suits-requires
+suits-requires c κs = search needs
 
 areas-ok-requires : tie.Need-areas-ok-requires
 areas-ok-requires c κs = search needs
@@ -34,14 +31,12 @@ returns : tie.Need-returns
 returns c =
     let e = c .before .before in
     let a = e .before .before in
-    let u = a .before .before in
-    let h = u .before .before .before in
+    let h = a .before .before .before .before in
     let l = h .before .before .args .log .now in
     c .all .ensures ∙
-    decided l (e .before .events-of .result .now) (said (h .read-header .result)) (meant (u .uses-of .result))
+    decided l (e .before .events-of .result .now) (said (h .read-header .result))
     (h .read-header .ensures)
-    (u .uses-of .ensures)
-    (a .before .fields-ok .ensures)
+    (a .before .suits .ensures)
     (a .areas-ok .ensures)
     (e .before .events-of .ensures)
     (e .events-ok .ensures)
@@ -51,8 +46,7 @@ layout-ok-spec =
     tie.close
     (tie.spec
     read-header-requires
-    uses-of-requires
-    fields-ok-requires
+    suits-requires
     areas-ok-requires
     events-of-requires
     events-ok-requires

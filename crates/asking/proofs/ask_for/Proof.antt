@@ -1,7 +1,7 @@
--- `asking::ask_of` meets its contract.
+-- `asking::ask_for` meets its contract.
 use borrow.Author.Needs.{needs}
-use Rattle.report.proofs.asking.ask_of.Statement.{statement}
-use Rattle.report.proofs.asking.ask_of.Tie as tie
+use Rattle.asking.proofs.ask_for.Statement.{statement}
+use Rattle.asking.proofs.ask_for.Tie as tie
 
 call-of-requires : tie.Need-call-of-requires
 call-of-requires c κs = search needs
@@ -31,8 +31,8 @@ returns c =
       call = λ a s d. rw (present .flag .ensures) (limit .before .call-of .ensures a s d);
     }
 
-pub ask-of-spec : {M : Type 1} → statement M
-ask-of-spec =
+pub ask-for-spec : {M : Type 1} → statement M
+ask-for-spec =
     tie.close
     (tie.spec
     call-of-requires

@@ -1,7 +1,7 @@
--- `asking::sub_of` meets its contract.
+-- `asking::timeout_of` meets its contract.
 use borrow.Author.Needs.{needs}
-use Rattle.report.proofs.asking.sub_of.Statement.{statement}
-use Rattle.report.proofs.asking.sub_of.Tie as tie
+use Rattle.asking.proofs.timeout_of.Statement.{statement}
+use Rattle.asking.proofs.timeout_of.Tie as tie
 
 flag-requires : tie.Need-flag-requires
 flag-requires c κs = search needs
@@ -12,5 +12,5 @@ returns c = rw (← c .before .flag .ensures, c .if1 .taken)
 returns-2 : tie.Need-returns-2
 returns-2 c = rw (← c .before .flag .ensures, c .if1 .left)
 
-pub sub-of-spec : {M : Type 1} → statement M
-sub-of-spec = tie.close (tie.spec flag-requires returns returns-2)
+pub timeout-of-spec : {M : Type 1} → statement M
+timeout-of-spec = tie.close (tie.spec flag-requires returns returns-2)

@@ -1,12 +1,11 @@
 -- `asking::call_of` meets its contract.
 use native.Mathlib.Omega.{arith}
 use mathlib.Core.Path.{refl}
-use Rattle.rules.specs.Calls.{given}
 use Rattle.logs.specs.Layout.{said}
-use Rattle.report.proofs.Headers.{sound-at, needed, above, no-call, data-is}
+use Rattle.asking.proofs.Headers.{sound-at, needed, above, no-call, data-is}
 use borrow.Author.Needs.{needs}
-use Rattle.report.proofs.asking.call_of.Statement.{statement}
-use Rattle.report.proofs.asking.call_of.Tie as tie
+use Rattle.asking.proofs.call_of.Statement.{statement}
+use Rattle.asking.proofs.call_of.Tie as tie
 
 cast-t6 : tie.Need-cast-t6
 cast-t6 c = omega (arith, sound-at (said (c .before .args .h)) 0 (c .match .keys1) (c .before .pre) .value)
@@ -78,7 +77,7 @@ returns-15 : tie.Need-returns-15
 returns-15 c = λ a s d. rw (c .match .keys15, data-is)
 
 returns-16 : tie.Need-returns-16
-returns-16 c = λ a s d. no-call (said (c .before .args .h)) (given a) (given s) d (above (c .before .args .h .call) 15 (c .match .rest))
+returns-16 c = λ a s d. no-call (said (c .before .args .h)) a s d (above (c .before .args .h .call) 15 (c .match .rest))
 
 pub call-of-spec : {M : Type 1} → statement M
 call-of-spec =

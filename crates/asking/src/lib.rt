@@ -1,21 +1,22 @@
-// What a log's header asks: the call, and how it is made.
+// What the fields of a log's header ask: the call, and how it is made.
 use calls::Ask;
 use exchange::types::RequestTimeout;
 use exchange::types::SubFunction;
 use logs::header::Header;
+use logs::layout::suits;
 use requests::calls::Call;
 ghost use mathlib.Core.Bool.{true};
 ghost use mathlib.Core.List.{List};
 ghost use mathlib.Core.Path.{_≡_};
 ghost use Prim.Native.Nat.{ℕ, _/_, _%_, _<_};
 ghost use lib.Dec.{eqb};
-ghost use Rattle.rules.specs.Calls.{given};
+ghost use Rattle.rules.specs.Calls.{Field};
 ghost use Rattle.rules.specs.Logs as rules;
 ghost use Rattle.rules.specs.Logs.{usesOf, fieldsOk, some?};
 ghost use Rattle.exchange.specs.Meaning.{subOf, limitOf};
-ghost use Rattle.requests.specs.Meaning.{callOf};
+ghost use Rattle.requests.specs.Meaning.{callFrom};
 ghost use Rattle.logs.specs.Layout.{said};
-ghost use Rattle.report.specs.Asking.{chosen, Asks};
+ghost use Rattle.asking.specs.Asking.{chosen, Asks, AskedBy};
 
 // "flags u8 (1 strict, 2 server timing, 4 suppressed client, 8 T present, 16 sub-function present, call 0 only, 32 data present)"
 fn flag(flags: u8, weight: u8) -> bool
@@ -48,7 +49,7 @@ fn timeout_of(h: Header) -> RequestTimeout
 // "value u16 (SID, id, mask, counter, or compression × 256 + encryption)"; of calls 0, 9 and 13 it is a byte.
 fn call_of(h: Header) -> Call
     requires { ⌜ fieldsOk (said h) (usesOf (h .call)) ≡ true ⌝ }
-    ensures { λ r. ⌜ ((a s d : List ℕ) → callOf r a s (eqb (rules.flag 32 (said h)) 1) d ≡ chosen (said h) (given a) (given s) d) ⌝ }
+    ensures { λ r. ⌜ ((a s : Field) (d : List ℕ) → callFrom r a s (eqb (rules.flag 32 (said h)) 1) d ≡ chosen (said h) a s d) ⌝ }
 {
     let call = h.call;
     let value = h.value;
@@ -69,12 +70,12 @@ fn call_of(h: Header) -> Call
         12 => Call::RequestUpload((value / 256) as u8, (value % 256) as u8),
         13 => Call::TransferData(value as u8),
         14 => Call::RequestTransferExit,
-        // of no sound log
+        // no call of document 01, and of no sound fields
         _ => Call::TesterPresent,
     }
 }
 
-pub(crate) fn ask_of(h: Header) -> Ask
+fn ask_for(h: Header) -> Ask
     requires { ⌜ fieldsOk (said h) (usesOf (h .call)) ≡ true ⌝ }
     ensures { λ r. ⌜ Asks (said h) r ⌝ }
 {
@@ -88,5 +89,21 @@ pub(crate) fn ask_of(h: Header) -> Ask
         strict: flag(flags, 1),
         server: flag(flags, 2),
         timeout,
+    }
+}
+
+// What sound fields ask.
+pub enum Asked {
+    Sound(Ask),
+    Unsound,
+}
+
+pub fn ask_of(h: Header) -> Asked
+    ensures { λ r. ⌜ AskedBy (said h) r ⌝ }
+{
+    if suits(h) {
+        Asked::Sound(ask_for(h))
+    } else {
+        Asked::Unsound
     }
 }

@@ -7,11 +7,11 @@ use mathlib.Core.Path.{_≡_, refl, sym, subst}
 use lib.Dec.{leb, eqb}
 use lib.ListN.{List·getD-eq-default}
 use borrow.Author.Tests.{leb-true, eq-eqb}
-use Rattle.rules.specs.Calls.{testerPresent, Field}
+use Rattle.rules.specs.Calls.{Field, testerPresent}
 use Rattle.rules.specs.Logs.{Header, Uses, flag, usesOf, fieldsOk, some?, calls}
 use Rattle.rules.proofs.Judging.{both}
 use Rattle.requests.specs.Meaning.{dataOf}
-use Rattle.report.specs.Asking.{chosen}
+use Rattle.asking.specs.Asking.{chosen}
 
 -- What sound fields say of the value and of flag 32.
 pub record Sound (h : Header) (u : Uses) : Type 0 where

@@ -1,0 +1,2 @@
+-- What the contracts of `asking` cite besides `rules`.
+pub mod Asking
