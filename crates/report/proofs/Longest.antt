@@ -6,7 +6,8 @@ use mathlib.Core.List.{List, [], _∷_, _++_, map}
 use mathlib.Core.Option.{Option, none, some}
 use mathlib.Core.Path.{_≡_, refl, _∙_}
 use lib.Dec.{leb, ltb, eqb}
-use lib.ListN.{length, getD, drop, length-take, length-drop, length-map}
+use lib.ListN.{length, getD, take, drop, length-take, length-drop, length-map}
+use lib.Seq.{take-append-seam}
 use borrow.Author.Tests.{leb-true, leb-false, ltb-true, le-leb}
 use Rattle.rules.specs.After.{lengthBytes, checks, first, only, handed, checked, after}
 use Rattle.rules.specs.Answers.{Part, nowhere, behind, deviation, deviation8, badLength, overflow, Outcome, positive, suppressed, negative, timeout, disconnected, transport, fault, refused, ifPositive, Answer, answer, refusal}
@@ -240,27 +241,29 @@ module _ (m : Bool) (w : Setting) (c : Call) (l : Lent) (p2 : w .timing .p2 ≤ 
       x : Answer
       x = exchange m (asked w c) (w .limit) (eventsIn l)
 
-byte-at : (l : List ℕ) (i : ℕ) → every isByte l ≡ true → getD l i 0 < 256
-byte-at [] i h = omega arith
-byte-at (b ∷ l) zero h = ltb-true b 256 (both (isByte b) (every isByte l) h .0)
-byte-at (b ∷ l) (suc i) h = byte-at l i (both (isByte b) (every isByte l) h .1)
+module _ (l : List ℕ) (bytes : (i : ℕ) → getD l i 0 < 256) where
+  four-bytes : (i : ℕ) → u32At l i ≤ most
+  four-bytes i = omega (arith, bytes i, bytes (i + 1), bytes (i + 2), bytes (i + 2 + 1))
 
-four-bytes : (l : List ℕ) (i : ℕ) → every isByte l ≡ true → u32At l i ≤ most
-four-bytes l i h = omega (arith, byte-at l i h, byte-at l (i + 1) h, byte-at l (i + 2) h, byte-at l (i + 2 + 1) h)
-
-module _ (l : List ℕ) (bytes : every isByte l ≡ true) where
   pub line-fits : length (lineOf l) ≤ 8222
   line-fits = go (layoutOk l) refl
     where
       go : (b : Bool) → layoutOk l ≡ b → length (lineOf l) ≤ 8222
       go true e =
           let h = headerOf l in
-          rw (line-sound l e) (call-short (eqb (flag 1 h) 1) (rules.settingOf h) (rules.callOf h l) (rules.lentOf h l) (four-bytes l 24 bytes) (four-bytes l 28 bytes))
+          rw (line-sound l e) (call-short (eqb (flag 1 h) 1) (rules.settingOf h) (rules.callOf h l) (rules.lentOf h l) (four-bytes 24) (four-bytes 28))
       go false e = rw (line-bad l e) (omega arith)
 
-  -- In a buffer of that length the line always stands.
-  pub always-room : {before after : List ℕ} {r : Written} → 8222 ≤ length before → Wrote (lineOf l) before r after
-      → (r ≡ Line (length (lineOf l))) × (after ≡ lineOf l ++ drop (length (lineOf l)) before)
-  always-room {before = before} h w =
-      let fits = le-leb (length (lineOf l)) (length before) (omega (arith, line-fits)) in
-      (w .answer ∙ rw fits, w .line ∙ rw fits)
+  -- A buffer of that length always has room, and the line stands at its front.
+  module _ {before after : List ℕ} {r : Written} (h : 8222 ≤ length before) (w : Wrote (lineOf l) before r after) where
+    fits : leb (length (lineOf l)) (length before) ≡ true
+    fits = le-leb (length (lineOf l)) (length before) (omega (arith, line-fits))
+
+    pub always-room : r ≡ Line (length (lineOf l))
+    always-room = w .answer ∙ rw fits
+
+    pub stands : {n : ℕ} → r ≡ Line n → take n after ≡ lineOf l
+    stands {n = n} e =
+        let long : n ≡ length (lineOf l) = cc always-room in
+        let whole : after ≡ lineOf l ++ drop (length (lineOf l)) before = w .line ∙ rw fits in
+        rw (long, whole) (take-append-seam (lineOf l) (drop (length (lineOf l)) before))
