@@ -1,26 +1,25 @@
 -- No log has a longer line than `LONGEST` says, so a buffer of that length has room for every one.
-use Prim.Native.Nat.{ℕ, zero, suc, _+_, _*_, _/_, _%_, _≤_, _<_, max}
+use Prim.Native.Nat.{ℕ, zero, suc, _+_, _/_, _%_, _≤_, _<_, max}
 use native.Mathlib.Omega.{arith}
 use mathlib.Core.Bool.{Bool, true, false, cond, _&&_}
 use mathlib.Core.List.{List, [], _∷_, _++_, map}
 use mathlib.Core.Option.{Option, none, some}
 use mathlib.Core.Path.{_≡_, refl, _∙_}
-use lib.Dec.{leb, ltb, eqb}
+use lib.Dec.{leb, eqb}
 use lib.ListN.{length, getD, take, drop, length-take, length-drop, length-map}
 use lib.Seq.{take-append-seam}
-use borrow.Author.Tests.{leb-true, leb-false, ltb-true, le-leb}
+use borrow.Author.Tests.{leb-true, leb-false, le-leb}
 use Rattle.rules.specs.After.{lengthBytes, checks, first, only, handed, checked, after}
 use Rattle.rules.specs.Answers.{Part, nowhere, behind, deviation, deviation8, badLength, overflow, Outcome, positive, suppressed, negative, timeout, disconnected, transport, fault, refused, ifPositive, Answer, answer, refusal}
-use Rattle.rules.specs.Bytes.{u16At, u32At, every, isByte}
+use Rattle.rules.specs.Bytes.{u32At, every, isByte}
 use Rattle.rules.specs.Calls.{Call, request, session, reset, security, testerPresent, readMemory, writeMemory, readIdentifier, writeIdentifier, faultCount, routine, download, upload, transfer, transferExit, head, requestOf, suppresses}
-use Rattle.rules.specs.Checks.{unless, judge}
 use Rattle.rules.specs.Client.{Result, asked, eventsIn, refuse, answered, call}
 use Rattle.rules.specs.Conversations.{Every}
-use Rattle.rules.specs.Events.{Entry, entryAt, entriesFrom, entries, Event, reply, idle, ended, failed, timeOf, named, eventOf, upTo, sound, rising, withinLimits}
-use Rattle.rules.specs.Exchange.{Asked, Step, pending, settles, look, Settled, settled, silence, waits, finish, act, turn, settle, counted, under, exchange}
-use Rattle.rules.specs.Lines.{ascii, word, detail, line, badlog}
+use Rattle.rules.specs.Events.{Entry, entriesFrom, entries, Event, reply, idle, ended, failed, timeOf, named, eventOf, upTo, sound, rising, withinLimits}
+use Rattle.rules.specs.Exchange.{Asked, Step, pending, settles, look, Settled, silence, waits, act, turn, settle, counted, under, exchange}
+use Rattle.rules.specs.Lines.{ascii, word, detail, line}
 use Rattle.rules.specs.Logs as rules
-use Rattle.rules.specs.Logs.{Header, headerOf, flag, layoutOk, lineOf}
+use Rattle.rules.specs.Logs.{headerOf, flag, layoutOk, lineOf}
 use Rattle.rules.specs.Refusals.{arguments, refusals}
 use Rattle.rules.specs.Settings.{Setting, Lent}
 use Rattle.rules.proofs.Judging.{both, judge-ind, pass-append}
