@@ -221,9 +221,9 @@ module _ (m : Bool) (w : Setting) (c : Call) (l : Lent) (p2 : w .timing .p2 ≤ 
   heard : withinLimits (l .events) (l .replies) ≡ true → Small (exchange m (asked w c) (w .limit) (eventsIn l))
   unfolding exchange
   heard h =
-      let es = entries (l .events) in
       let n : length (eventsIn l) ≤ 512 = simp length-map (few (l .events) (l .replies) h) in
-      let b = bounded m (asked w c) p2 star (eventsIn l) (all-short (l .replies) es (all-sound (l .events) (l .replies) h)) (suppresses (asked w c .sub)) (w .timing .p2) [] [] (omega arith) in
+      let shorts = all-short (l .replies) (entries (l .events)) (all-sound (l .events) (l .replies) h) in
+      let b = bounded m (asked w c) p2 star (eventsIn l) shorts (suppresses (asked w c .sub)) (w .timing .p2) [] [] (omega arith) in
       under-small (w .limit) _ (grown (omega arith) (omega arith) b)
 
   call-short : length (line (call m w c l .answer)) ≤ 8222
