@@ -122,7 +122,13 @@ returns-3 c =
     let l = log (left .before) in
     let asks = subst (λ (x : Asked). AskedBy (said (header .read-header .result)) x) (told .ask .given .1) (ask .ask-of .ensures) .1 in
     sound l (is-sound left) (header .read-header .ensures)
-    (answered l (said (header .read-header .result)) asks (address .address-of .ensures) (size .size-of .ensures) (bytes .data-of .ensures) (events .events-of .ensures) (replies .replies-of .ensures) (ran .run .ensures))
+    (answered l (said (header .read-header .result)) asks
+    (address .address-of .ensures)
+    (size .size-of .ensures)
+    (bytes .data-of .ensures)
+    (events .events-of .ensures)
+    (replies .replies-of .ensures)
+    (ran .run .ensures))
     (c .before .before .report .ensures)
 
 pub answer-spec : {M : Type 1} → statement M
