@@ -1,0 +1,107 @@
+-- `host::bintrochis_call_alfid` meets its contract: the numbers ask one of the four calls, or none.
+use mathlib.Core.Path.{_∙_}
+use lib.ListN.{length}
+use borrow.Author.Tests.{not-true, not-false}
+use Rattle.rules.specs.Calls.{alfid}
+use Rattle.host.proofs.Lengths.{wide}
+use Rattle.host.proofs.Serving.{told-of, unsuited, suited, asks-none, asks-one}
+use borrow.Author.Needs.{needs}
+use Rattle.host.proofs.bintrochis_call_alfid.Statement.{statement}
+use Rattle.host.proofs.bintrochis_call_alfid.Tie as tie
+
+fields-requires : tie.Need-fields-requires
+fields-requires c κs = search needs
+
+has-alfid-requires : tie.Need-has-alfid-requires
+has-alfid-requires c κs = search needs
+
+returns : tie.Need-returns
+returns c = asks-none (rw (← c .before .has-alfid .ensures, not-true (c .before .has-alfid .result) (c .if1 .taken)))
+
+ask-of-requires : tie.Need-ask-of-requires
+ask-of-requires c κs = search needs
+
+enum-known-ask : tie.Need-enum-known-ask
+enum-known-ask c = search needs
+
+enum-told : tie.Need-enum-told
+enum-told c = search needs
+
+returns-2 : tie.Need-returns-2
+returns-2 c =
+    let ask = c .before .before in
+    let one-of-four = ask .before in
+    let has = one-of-four .before .has-alfid in
+    let made = one-of-four .before .before in
+    let d = made .before .before .before .before .before .args .«data» .now in
+    asks-none
+    (rw (← has .ensures, not-false (has .result) (one-of-four .if1 .left))
+    (unsuited (length d) (made .fields .ensures) (c .enum-told .given .1) (ask .ask-of .ensures)))
+
+fits-requires : tie.Need-fits-requires
+fits-requires c κs = search needs
+
+returns-3 : tie.Need-returns-3
+returns-3 c =
+    let told = c .before .before .before in
+    let ask = told .before .before in
+    let one-of-four = ask .before in
+    let has = one-of-four .before .has-alfid in
+    let made = one-of-four .before .before in
+    let d = made .before .before .before .before .before .args .«data» .now in
+    let asks = told-of (made .fields .ensures) (told .ask .given .1) (ask .ask-of .ensures) in
+    asks-none
+    (rw (← has .ensures, not-false (has .result) (one-of-four .if1 .left))
+    (suited (length d) (made .fields .ensures) (asks .0) (c .before .fits2 .ensures) ∙ not-true _ (c .if2 .taken)))
+
+sent-length-requires : tie.Need-sent-length-requires
+sent-length-requires c κs = search needs
+
+run-alfid-requires : tie.Need-run-alfid-requires
+run-alfid-requires c κs = search needs
+
+numbers-requires : tie.Need-numbers-requires
+numbers-requires c κs = search needs
+
+same-length : tie.Need-same-length
+same-length c = search needs
+
+returns-4 : tie.Need-returns-4
+returns-4 c =
+    let ran = c .before .before .before in
+    let sent = ran .before .before in
+    let fit = sent .before in
+    let told = fit .before .before .before in
+    let ask = told .before .before in
+    let one-of-four = ask .before in
+    let has = one-of-four .before .has-alfid in
+    let made = one-of-four .before .before in
+    let x = made .before .before .before .before .before .args in
+    let d = x .«data» .now in
+    let asks = told-of (made .fields .ensures) (told .ask .given .1) (ask .ask-of .ensures) in
+    asks-one (alfid (x .address) (x .address-width)) (alfid (x .size) (x .size-width)) d
+    (asks .1)
+    (ran .run-alfid .ensures)
+    (sent .sent-length .ensures ∙ wide (told .ask .given .0 .0) (x .address) (x .address-width) (x .size) (x .size-width) d)
+    (rw (← has .ensures, not-false (has .result) (one-of-four .if1 .left))
+    (suited (length d) (made .fields .ensures) (asks .0) (fit .before .fits2 .ensures) ∙ not-false _ (fit .if2 .left)))
+    (c .numbers .ensures)
+
+pub bintrochis-call-alfid-spec : {M : Type 1} → statement M
+bintrochis-call-alfid-spec =
+    tie.close
+    (tie.spec
+    fields-requires
+    has-alfid-requires
+    returns
+    ask-of-requires
+    enum-known-ask
+    enum-told
+    returns-2
+    fits-requires
+    returns-3
+    sent-length-requires
+    run-alfid-requires
+    numbers-requires
+    same-length
+    returns-4)

@@ -1,0 +1,81 @@
+-- What the door's numbers and slices ask, and when they ask nothing that document 01 has.
+use Prim.Native.Nat.{ℕ, _+_}
+use mathlib.Core.Bool.{Bool, cond, _&&_, _||_}
+use mathlib.Core.Path.{_≡_}
+use mathlib.Core.List.{List}
+use lib.Dec.{leb, eqb}
+use lib.ListN.{length, take, drop}
+use Rattle.rules.specs.Calls.{Field, given, alfid, requestOf}
+use Rattle.rules.specs.Client.{Result, call}
+use Rattle.rules.specs.Logs.{Header, flag, usesOf, fieldsOk, settingOf}
+use Rattle.rules.specs.Settings.{Lent}
+use Rattle.asking.specs.Asking.{chosen}
+use Rattle.host.specs.Numbers.{numbersOf}
+
+-- The numbers as the header of a log has them. The log's areas are slices here, and the header counts no data bytes.
+abbrev pub fields : ℕ → ℕ → ℕ → ℕ → ℕ → ℕ → ℕ → ℕ → ℕ → Header
+fields c flags value sub a s p2 star limit = record {
+  version = 1;
+  call = c;
+  flags = flags;
+  value = value;
+  sub = sub;
+  addressLength = a;
+  sizeLength = s;
+  unused = 0;
+  arguments = a + s;
+  argumentsAt = 0;
+  events = 0;
+  eventsAt = 0;
+  replies = 0;
+  repliesAt = 0;
+  total = 0;
+  p2 = p2;
+  star = star;
+  limit = limit;
+}
+
+-- Whether there is such a call, and n argument bytes are as many as the two lengths say, and more with flag 32 only.
+unfoldable pub fits : Header → ℕ → Bool
+fits h n = leb (h .call) 14 && leb (h .arguments) n && (eqb (flag 32 h) 1 || leb n (h .arguments))
+
+-- Whether the fields and n argument bytes ask a call: the fields suit it by the log's rules.
+abbrev pub asksOne : Header → ℕ → Bool
+asksOne h n = fieldsOk h (usesOf (h .call)) && fits h n
+
+-- "Calls 5, 6, 11 and 12 have an `alfid` form"
+abbrev pub hasAlfid : ℕ → Bool
+hasAlfid c = eqb c 5 || eqb c 6 || eqb c 11 || eqb c 12
+
+-- "Arguments are address, size, data."
+abbrev pub addressIn : Header → List ℕ → Field
+addressIn h l = given (take (h .addressLength) l)
+
+abbrev pub sizeIn : Header → List ℕ → Field
+sizeIn h l = given (take (h .sizeLength) (drop (h .addressLength) l))
+
+abbrev pub dataIn : Header → List ℕ → List ℕ
+dataIn h l = drop (h .addressLength + h .sizeLength) l
+
+-- The call that the fields ask, with this address, size and data.
+abbrev pub asked : Header → Field → Field → List ℕ → Lent → Result
+asked h a s d l = call (eqb (flag 1 h) 1) (settingOf h) (chosen h a s d) l
+
+-- The request that it sends.
+abbrev pub requestIn : Header → Field → Field → List ℕ → List ℕ
+requestIn h a s d = requestOf (settingOf h .quiet) (chosen h a s d)
+
+-- 0 where the numbers ask a call: its request stands in the buffer by document 01's rules, and the answer has its numbers. 1 where they ask none: nothing is touched.
+pub record Served (asks : Bool) (x : Result) (long : ℕ) (before told : List ℕ) (r : ℕ) (after′ told′ : List ℕ) : Type 0 where
+  pub done : r ≡ cond asks 0 1
+  pub request : after′ ≡ cond asks (x .buffer) before
+  pub answer : told′ ≡ cond asks (numbersOf x long) told
+
+-- With argument bytes; in the `alfid` form with address and size as numbers v and u of widths w and w′, and data.
+abbrev pub InBytes : Header → List ℕ → Lent → List ℕ → ℕ → List ℕ → List ℕ → Type 0
+InBytes h l lent answer r request′ answer′ =
+    Served (asksOne h (length l)) (asked h (addressIn h l) (sizeIn h l) (dataIn h l) lent) (length (requestIn h (addressIn h l) (sizeIn h l) (dataIn h l))) (lent .buffer) answer r request′ answer′
+
+abbrev pub InNumbers : Header → ℕ → ℕ → ℕ → ℕ → List ℕ → Lent → List ℕ → ℕ → List ℕ → List ℕ → Type 0
+InNumbers h v u w w′ d lent answer r request′ answer′ =
+    Served (hasAlfid (h .call) && asksOne h (length d)) (asked h (alfid v w) (alfid u w′) d lent) (length (requestIn h (alfid v w) (alfid u w′) d)) (lent .buffer) answer r request′ answer′

@@ -1,0 +1,4 @@
+-- What the contracts of `host` cite besides `rules`.
+pub mod Numbers
+pub mod Sending
+pub mod Door

@@ -1,0 +1,63 @@
+-- A whole call's result as numbers, which C and Rust can read.
+use Prim.Native.Nat.{ℕ, _-_, _^_}
+use mathlib.Core.Bool.{cond}
+use mathlib.Core.List.{List, [], _∷_}
+use mathlib.Core.Option.{Option, none, some}
+use mathlib.Core.Path.{_≡_}
+use lib.Dec.{eqb}
+use lib.ListN.{length}
+use Rattle.rules.specs.Answers.{Outcome, positive, suppressed, negative, timeout, disconnected, transport, fault, refused, deviation, deviation8, badLength, overflow}
+use Rattle.rules.specs.Client.{Result}
+use Rattle.exchange.specs.Places.{Inside, InsideOutcome}
+use Rattle.calls.specs.Meaning.{resultOf}
+use Rattle.calls.specs.declared.Answered.{Answered}
+use Rattle.host.specs.declared.numbers.Values.{Values}
+
+-- No upper bound: the largest number, which no reply reaches.
+abbrev pub upper : Option ℕ → ℕ
+upper none = 2 ^ 64 - 1
+upper (some n) = n
+
+abbrev pub plain : ℕ → ℕ → Values
+plain n detail = record { outcome = n; detail = detail; least = 0; most = 0; at = 0; len = 0 }
+
+-- "Where an answer is an enum, a definition gives this paper's number and values for each case": the outcomes in the order of document 01's words, then the code, the
+-- error's, the deviation's or the refusal's number, deviation 8's bounds, and the place of the data.
+abbrev pub valuesOf : Outcome → Values
+valuesOf (positive p) = record { outcome = 0; detail = 0; least = 0; most = 0; at = p .at; len = length (p .bytes) }
+valuesOf suppressed = plain 1 0
+valuesOf (negative code) = plain 2 code
+valuesOf timeout = plain 3 0
+valuesOf disconnected = plain 4 0
+valuesOf (transport n) = plain 5 n
+valuesOf (fault (deviation n)) = plain 6 n
+valuesOf (fault (deviation8 least most)) = record { outcome = 6; detail = 8; least = least; most = upper most; at = 0; len = 0 }
+valuesOf (fault badLength) = plain 7 0
+valuesOf (fault overflow) = plain 8 0
+valuesOf (refused n) = plain 9 n
+
+-- The fifteen numbers of a call whose request is so long; where it is refused there is none.
+unfoldable pub numbersOf : Result → ℕ → List ℕ
+numbersOf r long =
+    let v = valuesOf (r .answer .outcome) in
+    v .outcome ∷
+    v .detail ∷
+    v .least ∷
+    v .most ∷
+    r .answer .time ∷
+    r .answer .events ∷
+    r .answer .notices ∷
+    v .at ∷
+    v .len ∷
+    r .answer .reply .at ∷
+    length (r .answer .reply .bytes) ∷
+    r .number ∷
+    r .timing .p2 ∷
+    r .timing .star ∷
+    cond (eqb (v .outcome) 9) 0 long ∷ []
+
+-- The numbers of an answer whose places lie in the lent reply bytes, whatever stands in the request buffer.
+abbrev pub Tells : Answered → ℕ → List ℕ → Type 0
+Tells x long r =
+    (replies buffer : List ℕ) → InsideOutcome replies (x .answer .outcome) → Inside replies (x .answer .reply)
+    → r ≡ numbersOf (resultOf replies x buffer) long

@@ -1,0 +1,179 @@
+// The door for C and Rust: one function for all calls on numbers and byte slices, and one for the `alfid` forms. include/bintrochis.h says it to C.
+use asking::Asked;
+use asking::ask_of;
+use calls::Session;
+use logs::header::Header;
+use numbers::numbers;
+use sending::sent_length;
+use wire::part;
+ghost use mathlib.Core.Path.{_≡_};
+ghost use Rattle.logs.specs.Layout.{said};
+ghost use Rattle.calls.specs.Meaning.{lentOf};
+ghost use Rattle.host.specs.Door.{fields, fits, hasAlfid, InBytes, InNumbers};
+
+mod numbers;
+mod sending;
+
+fn fields(
+    call: u8,
+    flags: u8,
+    value: u16,
+    sub: u8,
+    address_length: u8,
+    size_length: u8,
+    p2: u32,
+    star: u32,
+    limit: u32,
+) -> Header
+    ensures { λ r. ⌜ said r ≡ fields call flags value sub «address_length» «size_length» p2 star limit ⌝ }
+{
+    Header {
+        version: 1,
+        call,
+        flags,
+        value,
+        sub,
+        address_length,
+        size_length,
+        unused: 0,
+        arguments: address_length as u16 + size_length as u16,
+        arguments_at: 0,
+        events: 0,
+        events_at: 0,
+        replies: 0,
+        replies_at: 0,
+        total: 0,
+        p2,
+        star,
+        limit,
+    }
+}
+
+// Whether there is such a call, and n argument bytes are as many as its fields say.
+fn fits(h: Header, n: usize) -> bool
+    ensures { λ r. ⌜ r ≡ fits (said h) n ⌝ }
+{
+    let arguments = h.arguments as usize;
+    if h.call > 14 {
+        return false;
+    }
+    if n < arguments {
+        return false;
+    }
+    if h.flags / 32 % 2 == 1 {
+        return true;
+    }
+    n <= arguments
+}
+
+fn has_alfid(call: u8) -> bool
+    ensures { λ r. ⌜ r ≡ hasAlfid call ⌝ }
+{
+    match call {
+        5 => true,
+        6 => true,
+        11 => true,
+        12 => true,
+        _ => false,
+    }
+}
+
+// The numbers and flags are those of the log's header; `arguments` are address, size and data.
+#[no_mangle]
+pub extern "C" fn bintrochis_call(
+    call: u8,
+    flags: u8,
+    value: u16,
+    sub: u8,
+    address_length: u8,
+    size_length: u8,
+    p2: u32,
+    p2_star: u32,
+    limit: u32,
+    arguments: &[u8],
+    request: &mut [u8],
+    events: &[u8],
+    replies: &[u8],
+    answer: &mut [u64; 15],
+) -> u8
+    ensures { λ r. ⌜ InBytes (fields call flags value sub «address_length» «size_length» p2 «p2_star» limit) (now (arguments .entry)) (lentOf (now (request .entry)) (now (events .entry)) (now (replies .entry))) (now (answer .entry)) r (now (request .exit)) (now (answer .exit)) ⌝ }
+{
+    let h = fields(
+        call,
+        flags,
+        value,
+        sub,
+        address_length,
+        size_length,
+        p2,
+        p2_star,
+        limit,
+    );
+    let Asked::Sound(ask) = ask_of(h) else {
+        return 1;
+    };
+    if !fits(h, arguments.len()) {
+        return 1;
+    }
+    let at_size = address_length as usize;
+    let at_data = at_size + size_length as usize;
+    let address = part(arguments, 0, at_size);
+    let size = part(arguments, at_size, size_length as usize);
+    let data = part(arguments, at_data, arguments.len());
+    let session = Session { p2, star: p2_star };
+    let call = ask.call;
+    let long = sent_length(call, address.len(), size.len(), ask.present, data.len());
+    let x = calls::run(session, ask, request, address, size, data, events, replies);
+    *answer = numbers(x, long);
+    0
+}
+
+// The same for the `alfid` forms of calls 5, 6, 11 and 12: "address and size as 64-bit numbers, each with a width in bytes".
+#[no_mangle]
+pub extern "C" fn bintrochis_call_alfid(
+    call: u8,
+    flags: u8,
+    value: u16,
+    address: u64,
+    size: u64,
+    address_width: usize,
+    size_width: usize,
+    p2: u32,
+    p2_star: u32,
+    limit: u32,
+    data: &[u8],
+    request: &mut [u8],
+    events: &[u8],
+    replies: &[u8],
+    answer: &mut [u64; 15],
+) -> u8
+    ensures { λ r. ⌜ InNumbers (fields call flags value 0 0 0 p2 «p2_star» limit) address size «address_width» «size_width» (now («data» .entry)) (lentOf (now (request .entry)) (now (events .entry)) (now (replies .entry))) (now (answer .entry)) r (now (request .exit)) (now (answer .exit)) ⌝ }
+{
+    let h = fields(call, flags, value, 0, 0, 0, p2, p2_star, limit);
+    if !has_alfid(call) {
+        return 1;
+    }
+    let Asked::Sound(ask) = ask_of(h) else {
+        return 1;
+    };
+    if !fits(h, data.len()) {
+        return 1;
+    }
+    let session = Session { p2, star: p2_star };
+    let call = ask.call;
+    let long = sent_length(call, address_width, size_width, ask.present, data.len());
+    let x = calls::run_alfid(
+        session,
+        ask,
+        request,
+        address,
+        size,
+        address_width,
+        size_width,
+        data,
+        events,
+        replies,
+    );
+    *answer = numbers(x, long);
+    0
+}

@@ -1,0 +1,134 @@
+// An answer as fifteen numbers.
+use calls::Answered;
+use exchange::error::Maximum;
+use exchange::error::ProtocolDeviation;
+use exchange::types::Outcome;
+ghost use mathlib.Core.Bool.{cond};
+ghost use mathlib.Core.List.{List};
+ghost use mathlib.Core.Path.{_≡_};
+ghost use Prim.Native.Nat.{ℕ};
+ghost use lib.Dec.{eqb};
+ghost use Rattle.rules.specs.Answers.{fault};
+ghost use Rattle.exchange.specs.Meaning.{outcomeOf, deviationOf, maximumOf};
+ghost use Rattle.exchange.specs.Places.{InsideOutcome};
+ghost use Rattle.host.specs.Numbers.{upper, plain, valuesOf, Tells};
+
+// An outcome's number and values, deviation 8's bounds, and the place of a positive's data.
+struct Values {
+    outcome: u64,
+    detail: u64,
+    least: u64,
+    most: u64,
+    at: u64,
+    len: u64,
+}
+
+fn plain(outcome: u64, detail: u64) -> Values
+    ensures { λ r. ⌜ r ≡ plain outcome detail ⌝ }
+{
+    Values {
+        outcome,
+        detail,
+        least: 0,
+        most: 0,
+        at: 0,
+        len: 0,
+    }
+}
+
+fn upper(maximum: Maximum) -> u64
+    ensures { λ r. ⌜ r ≡ upper (maximumOf maximum) ⌝ }
+{
+    match maximum {
+        Maximum::None => 18446744073709551615,
+        Maximum::At(most) => most as u64,
+    }
+}
+
+// "Deviations are numbered 1 to 15 in the order of `ProtocolDeviation`"
+fn deviation(deviation: ProtocolDeviation) -> Values
+    ensures { λ r. ⌜ r ≡ valuesOf (fault (deviationOf deviation)) ⌝ }
+{
+    match deviation {
+        ProtocolDeviation::InvalidServiceId => plain(6, 1),
+        ProtocolDeviation::InvalidRequestServiceId => plain(6, 2),
+        ProtocolDeviation::InvalidSubFunction => plain(6, 3),
+        ProtocolDeviation::UnexpectedPositiveResponse => plain(6, 4),
+        ProtocolDeviation::InvalidDataIdentifier => plain(6, 5),
+        ProtocolDeviation::InvalidRoutineIdentifier => plain(6, 6),
+        ProtocolDeviation::InvalidBlockSequenceCounter => plain(6, 7),
+        ProtocolDeviation::InvalidResponseLength(least, most) => Values {
+            outcome: 6,
+            detail: 8,
+            least: least as u64,
+            most: upper(most),
+            at: 0,
+            len: 0,
+        },
+        ProtocolDeviation::InvalidLengthFormat => plain(6, 9),
+        ProtocolDeviation::InvalidLengthFormatIdentifier => plain(6, 10),
+        ProtocolDeviation::InvalidMaxNumberOfBlockLength => plain(6, 11),
+        ProtocolDeviation::InvalidAddressAndLengthFormatIdentifier => plain(6, 12),
+        ProtocolDeviation::InvalidMemoryAddress => plain(6, 13),
+        ProtocolDeviation::InvalidMemorySize => plain(6, 14),
+        ProtocolDeviation::InvalidMemoryRecordLength => plain(6, 15),
+    }
+}
+
+fn told(outcome: Outcome) -> Values
+    ensures { λ r. ⌜ ((replies : List ℕ) → InsideOutcome replies outcome → r ≡ valuesOf (outcomeOf replies outcome)) ⌝ }
+{
+    match outcome {
+        Outcome::PositiveResponse(place) => Values {
+            outcome: 0,
+            detail: 0,
+            least: 0,
+            most: 0,
+            at: place.at as u64,
+            len: place.len as u64,
+        },
+        Outcome::Suppressed => plain(1, 0),
+        Outcome::NegativeResponse(code) => plain(2, code as u64),
+        Outcome::Timeout => plain(3, 0),
+        Outcome::Disconnected => plain(4, 0),
+        Outcome::Transport(number) => plain(5, number as u64),
+        Outcome::ProtocolDeviation(d) => deviation(d),
+        Outcome::InvalidResponseLength => plain(7, 0),
+        Outcome::BlockLengthOverflow => plain(8, 0),
+        Outcome::Refused(number) => plain(9, number as u64),
+    }
+}
+
+fn unless_refused(outcome: u64, long: u64) -> u64
+    ensures { λ r. ⌜ r ≡ cond (eqb outcome 9) 0 long ⌝ }
+{
+    if outcome == 9 { 0 } else { long }
+}
+
+// `long`: how many bytes the request has.
+pub(crate) fn numbers(x: Answered, long: u64) -> [u64; 15]
+    ensures { λ r. ⌜ Tells x long r ⌝ }
+{
+    let answer = x.answer;
+    let outcome = answer.outcome;
+    let reply = answer.reply;
+    let session = x.session;
+    let v = told(outcome);
+    [
+        v.outcome,
+        v.detail,
+        v.least,
+        v.most,
+        answer.time,
+        answer.events as u64,
+        answer.notices as u64,
+        v.at,
+        v.len,
+        reply.at as u64,
+        reply.len as u64,
+        x.number,
+        session.p2 as u64,
+        session.star as u64,
+        unless_refused(v.outcome, long),
+    ]
+}

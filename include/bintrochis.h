@@ -1,0 +1,125 @@
+/* The door to Bintrochis for C: a UDS client (ISO 14229-1) in which every call is proved.
+ *
+ * A call is judged from what was heard: the caller sends the request that a call writes, gathers what came back with its times, and
+ * calls again with these events; or it replays a recording. Nothing here sends, waits, allocates or keeps anything, so the functions may
+ * be called from any thread. No argument leads to anything undefined, as long as each pointer has as many bytes or numbers behind it as
+ * its length says, no pointer is null, and what is written to (request, answer) overlaps nothing else.
+ *
+ * `crates/host/specs/Door.antt` and `Numbers.antt` are the definitions that the two functions are proved to equal. */
+#ifndef BINTROCHIS_H
+#define BINTROCHIS_H
+
+#include <stddef.h>
+#include <stdint.h>
+
+#ifdef __cplusplus
+extern "C" {
+#define BINTROCHIS_ANSWER(name) name[]
+#else
+#define BINTROCHIS_ANSWER(name) name[static BINTROCHIS_NUMBERS]
+#endif
+
+/* The calls. In brackets: what `value` is, whether there is a `sub`, and what `arguments` hold. */
+enum bintrochis_call_number {
+    BINTROCHIS_REQUEST = 0,                  /* value SID; sub with BINTROCHIS_SUB; data? */
+    BINTROCHIS_DIAGNOSTIC_SESSION_CONTROL = 1, /* sub */
+    BINTROCHIS_ECU_RESET = 2,                /* sub */
+    BINTROCHIS_SECURITY_ACCESS = 3,          /* sub; data? */
+    BINTROCHIS_TESTER_PRESENT = 4,
+    BINTROCHIS_READ_MEMORY_BY_ADDRESS = 5,   /* address, size */
+    BINTROCHIS_WRITE_MEMORY_BY_ADDRESS = 6,  /* address, size, data */
+    BINTROCHIS_READ_DATA_BY_IDENTIFIER = 7,  /* value identifier */
+    BINTROCHIS_WRITE_DATA_BY_IDENTIFIER = 8, /* value identifier; data */
+    BINTROCHIS_READ_DTC_INFORMATION = 9,     /* value mask: the number of faults by status mask */
+    BINTROCHIS_ROUTINE_CONTROL = 10,         /* value identifier; sub; data? */
+    BINTROCHIS_REQUEST_DOWNLOAD = 11,        /* value compression x 256 + encryption; address, size */
+    BINTROCHIS_REQUEST_UPLOAD = 12,          /* the same */
+    BINTROCHIS_TRANSFER_DATA = 13,           /* value block counter; data? */
+    BINTROCHIS_REQUEST_TRANSFER_EXIT = 14    /* data? */
+};
+
+/* Flags. The first four suit every call. */
+enum bintrochis_flag {
+    BINTROCHIS_STRICT = 1,
+    BINTROCHIS_SERVER_TIMING = 2, /* call 1 may set P2 and P2* */
+    BINTROCHIS_SUPPRESSED = 4,    /* the suppressed client calls: bit 7 of the sub-function is set */
+    BINTROCHIS_LIMITED = 8,       /* the overall timeout `limit` holds */
+    BINTROCHIS_SUB = 16,          /* call 0 only: it has a sub-function */
+    BINTROCHIS_DATA = 32          /* data is given, be it of no bytes; needed by calls 6 and 8 */
+};
+
+/* An event, BINTROCHIS_EVENT bytes, big-endian: time u32 in milliseconds since sending, kind u16, offset into the reply bytes u16, length
+ * u16. A transport error has its number in place of the length. Times never fall; at most 512 events; a reply has at most 4,095 bytes. */
+#define BINTROCHIS_EVENT 10
+enum bintrochis_event_kind {
+    BINTROCHIS_REPLY = 0,
+    BINTROCHIS_IDLE = 1,
+    BINTROCHIS_END = 2,
+    BINTROCHIS_ERROR = 3
+};
+
+/* No request is longer. */
+#define BINTROCHIS_LONGEST_REQUEST 4095
+
+/* The numbers of an answer, by their places in it. */
+enum bintrochis_number {
+    BINTROCHIS_OUTCOME = 0,
+    BINTROCHIS_DETAIL = 1,  /* a negative's code, a transport error's, a deviation's or a refusal's number; else 0 */
+    BINTROCHIS_LEAST = 2,   /* deviation 8: the least length of the reply */
+    BINTROCHIS_MOST = 3,    /* and the greatest; BINTROCHIS_NO_MAXIMUM: there is none */
+    BINTROCHIS_TIME = 4,    /* the finishing time */
+    BINTROCHIS_EVENTS = 5,  /* how many events were read */
+    BINTROCHIS_NOTICES = 6, /* and how many of these were wait notices, 7F SID 78 */
+    BINTROCHIS_DATA_AT = 7, /* the data that a positive hands out: where in the reply bytes */
+    BINTROCHIS_DATA_LENGTH = 8,
+    BINTROCHIS_REPLY_AT = 9, /* the reply that settled the call */
+    BINTROCHIS_REPLY_LENGTH = 10,
+    BINTROCHIS_BLOCK_LENGTH = 11, /* calls 11 and 12: the number that they return; else 0 */
+    BINTROCHIS_P2 = 12,           /* the session's timing afterwards, in milliseconds */
+    BINTROCHIS_P2_STAR = 13,
+    BINTROCHIS_REQUEST_LENGTH = 14, /* how many bytes to send; under a refusal 0 */
+    BINTROCHIS_NUMBERS = 15
+};
+
+#define BINTROCHIS_NO_MAXIMUM UINT64_MAX
+
+enum bintrochis_outcome {
+    BINTROCHIS_POSITIVE = 0,
+    BINTROCHIS_SUPPRESSED_SILENCE = 1, /* silence, which was asked for */
+    BINTROCHIS_NEGATIVE = 2,
+    BINTROCHIS_TIMEOUT = 3,
+    BINTROCHIS_DISCONNECTED = 4,
+    BINTROCHIS_TRANSPORT = 5,
+    BINTROCHIS_DEVIATION = 6, /* strict: the reply breaks a rule, numbered 1 to 15 */
+    BINTROCHIS_LENGTH = 7,    /* lenient: the reply is too short to read, or too long */
+    BINTROCHIS_OVERFLOW = 8,  /* calls 11 and 12: a block length above 2^64 - 1 */
+    BINTROCHIS_REFUSED = 9    /* nothing to send: refusal 1 to 10; request and timing are untouched */
+};
+
+/* What the functions return. */
+enum bintrochis_result {
+    BINTROCHIS_DONE = 0,  /* the answer stands in `answer`; unless it is a refusal, the request stands at the front of `request` */
+    BINTROCHIS_MISUSE = 1 /* the numbers ask no call, and nothing was touched. This is so when and only when
+                             - call is above 14, or in the second function none of 5, 6, 11 and 12;
+                             - a flag does not suit the call, or one that it needs is missing;
+                             - a field that the call does not use is not 0 (value, sub, lengths, limit), or value is above 255 for calls 0, 9, 13;
+                             - there are fewer argument bytes than the two lengths say, or more without BINTROCHIS_DATA. */
+};
+
+/* Any call. `arguments` are address, size and data, one behind the other, the first two as long as `address_length` and `size_length` say. */
+uint8_t bintrochis_call(uint8_t call, uint8_t flags, uint16_t value, uint8_t sub, uint8_t address_length, uint8_t size_length, uint32_t p2,
+                        uint32_t p2_star, uint32_t limit, const uint8_t *arguments, size_t arguments_length, uint8_t *request,
+                        size_t request_length, const uint8_t *events, size_t events_length, const uint8_t *replies, size_t replies_length,
+                        uint64_t BINTROCHIS_ANSWER(answer));
+
+/* Calls 5, 6, 11 and 12 with address and size as numbers, each with a width in bytes. Refusals 6 and 7 come from here alone. */
+uint8_t bintrochis_call_alfid(uint8_t call, uint8_t flags, uint16_t value, uint64_t address, uint64_t size, size_t address_width,
+                              size_t size_width, uint32_t p2, uint32_t p2_star, uint32_t limit, const uint8_t *data, size_t data_length,
+                              uint8_t *request, size_t request_length, const uint8_t *events, size_t events_length, const uint8_t *replies,
+                              size_t replies_length, uint64_t BINTROCHIS_ANSWER(answer));
+
+#ifdef __cplusplus
+}
+#endif
+
+#endif
