@@ -1,0 +1,420 @@
+//! Bintrochis for Rust: a UDS client (ISO 14229-1) in which every call is proved.
+//!
+//! A call is judged from what was heard. [`Asked::answer`] writes the request into a lent buffer and judges a list of events, each
+//! with its time since sending: with no events it gives the request to send, and with what came back the answer. Nothing here
+//! sends or waits. This crate turns numbers into enums and places into slices; the proved library does the rest.
+#![deny(unsafe_code)]
+
+#[allow(unsafe_code)]
+mod door;
+
+use door::{number, Fields, Lent, Numbers};
+
+/// No request is longer, so a buffer of so many bytes takes each.
+pub const LONGEST_REQUEST: usize = 4095;
+
+/// The session record, in milliseconds. Call 1 sets it, if the server's timing is taken.
+#[derive(Debug, Clone, Copy, PartialEq, Eq)]
+pub struct Session {
+    pub p2: u32,
+    pub p2_star: u32,
+}
+
+/// How a call is made.
+#[derive(Debug, Clone, Copy, PartialEq, Eq)]
+pub struct Config {
+    pub strict: bool,
+    pub server_timing: bool,
+    /// The suppressed client calls: bit 7 of the sub-function is set.
+    pub suppressed: bool,
+    /// The overall timeout, in milliseconds since sending.
+    pub timeout: Option<u32>,
+}
+
+/// Address and size: bytes, or numbers with a width in bytes each.
+#[derive(Debug, Clone, Copy, PartialEq, Eq)]
+pub enum Memory<'a> {
+    Bytes {
+        address: &'a [u8],
+        size: &'a [u8],
+    },
+    Alfid {
+        address: u64,
+        size: u64,
+        address_width: usize,
+        size_width: usize,
+    },
+}
+
+/// The calls, under the names of the Rust's services. Data that is absent is not data of no bytes.
+#[derive(Debug, Clone, Copy, PartialEq, Eq)]
+pub enum Call<'a> {
+    Request {
+        sid: u8,
+        sub_function: Option<u8>,
+        data: Option<&'a [u8]>,
+    },
+    DiagnosticSessionControl {
+        session_type: u8,
+    },
+    EcuReset {
+        reset_type: u8,
+    },
+    SecurityAccess {
+        access_type: u8,
+        data: Option<&'a [u8]>,
+    },
+    TesterPresent,
+    ReadMemoryByAddress {
+        memory: Memory<'a>,
+    },
+    WriteMemoryByAddress {
+        memory: Memory<'a>,
+        data: &'a [u8],
+    },
+    ReadDataByIdentifier {
+        identifier: u16,
+    },
+    WriteDataByIdentifier {
+        identifier: u16,
+        data: &'a [u8],
+    },
+    ReadDTCInformationNumberOfDTCByStatusMask {
+        status_mask: u8,
+    },
+    RoutineControl {
+        control_type: u8,
+        identifier: u16,
+        data: Option<&'a [u8]>,
+    },
+    RequestDownload {
+        compression: u8,
+        encryption: u8,
+        memory: Memory<'a>,
+    },
+    RequestUpload {
+        compression: u8,
+        encryption: u8,
+        memory: Memory<'a>,
+    },
+    TransferData {
+        counter: u8,
+        data: Option<&'a [u8]>,
+    },
+    RequestTransferExit {
+        data: Option<&'a [u8]>,
+    },
+}
+
+/// What a strict reply must not be, in the order of the Rust's enum.
+#[derive(Debug, Clone, Copy, PartialEq, Eq)]
+pub enum ProtocolDeviation {
+    InvalidServiceId,
+    InvalidRequestServiceId,
+    InvalidSubFunction,
+    UnexpectedPositiveResponse,
+    InvalidDataIdentifier,
+    InvalidRoutineIdentifier,
+    InvalidBlockSequenceCounter,
+    InvalidResponseLength { minimum: u64, maximum: Option<u64> },
+    InvalidLengthFormat,
+    InvalidLengthFormatIdentifier,
+    InvalidMaxNumberOfBlockLength,
+    InvalidAddressAndLengthFormatIdentifier,
+    InvalidMemoryAddress,
+    InvalidMemorySize,
+    InvalidMemoryRecordLength,
+}
+
+/// How a call ended. Data is a part of the lent reply bytes.
+#[derive(Debug, Clone, Copy, PartialEq, Eq)]
+pub enum Outcome<'r> {
+    PositiveResponse(&'r [u8]),
+    /// Silence, which was asked for.
+    Suppressed,
+    NegativeResponse(u8),
+    Timeout,
+    Disconnected,
+    /// The number that the transport's error was given.
+    Transport(u16),
+    ProtocolDeviation(ProtocolDeviation),
+    /// Lenient: a reply too short to read, or too long.
+    InvalidResponseLength,
+    BlockLengthOverflow,
+    /// Nothing to send, by the refusal of this number.
+    Refused(u8),
+}
+
+/// What a call answers.
+#[derive(Debug, Clone, Copy, PartialEq, Eq)]
+pub struct Answer<'q, 'r> {
+    pub outcome: Outcome<'r>,
+    /// The finishing time, in milliseconds since sending.
+    pub time: u64,
+    /// How many events were read, and how many of these were wait notices.
+    pub events: usize,
+    pub notices: usize,
+    /// The reply that settled the call; empty if none did.
+    pub reply: &'r [u8],
+    /// The block length of a download or an upload, and else 0.
+    pub block_length: u64,
+    /// The request to send; empty under a refusal.
+    pub request: &'q [u8],
+}
+
+/// What was heard, each event in ten bytes as in a log.
+#[derive(Debug, Clone, Default, PartialEq, Eq)]
+pub struct Events(Vec<u8>);
+
+impl Events {
+    pub fn new() -> Events {
+        Events::default()
+    }
+
+    fn push(&mut self, time: u32, kind: u16, offset: u16, length: u16) -> &mut Events {
+        self.0.extend(time.to_be_bytes());
+        for field in [kind, offset, length] {
+            self.0.extend(field.to_be_bytes());
+        }
+        self
+    }
+
+    /// A reply: these bytes of the reply bytes.
+    pub fn reply(&mut self, time: u32, offset: u16, length: u16) -> &mut Events {
+        self.push(time, 0, offset, length)
+    }
+
+    pub fn idle(&mut self, time: u32) -> &mut Events {
+        self.push(time, 1, 0, 0)
+    }
+
+    pub fn end(&mut self, time: u32) -> &mut Events {
+        self.push(time, 2, 0, 0)
+    }
+
+    pub fn error(&mut self, time: u32, number: u16) -> &mut Events {
+        self.push(time, 3, 0, number)
+    }
+
+    pub fn as_bytes(&self) -> &[u8] {
+        &self.0
+    }
+}
+
+// Flags.
+const STRICT: u8 = 1;
+const SERVER_TIMING: u8 = 2;
+const SUPPRESSED: u8 = 4;
+const LIMITED: u8 = 8;
+const SUB: u8 = 16;
+const DATA: u8 = 32;
+
+/// A field of more bytes than this is refused as one of so many is, and its length may not fit the door's byte.
+const TOO_LONG: usize = 16;
+
+/// A call with its setting, in the form that the proved library takes.
+#[derive(Debug, Clone, PartialEq, Eq)]
+pub struct Asked {
+    fields: Fields,
+    arguments: Vec<u8>,
+}
+
+impl Asked {
+    pub fn new(call: &Call<'_>, config: &Config) -> Asked {
+        let none = Memory::Bytes {
+            address: &[],
+            size: &[],
+        };
+        let methods =
+            |compression: u8, encryption: u8| u16::from_be_bytes([compression, encryption]);
+        // The call's number, `value`, `sub`, address and size, data.
+        let (call, value, sub, memory, data) = match *call {
+            Call::Request {
+                sid,
+                sub_function,
+                data,
+            } => (0, sid.into(), sub_function, none, data),
+            Call::DiagnosticSessionControl { session_type } => {
+                (1, 0, Some(session_type), none, None)
+            }
+            Call::EcuReset { reset_type } => (2, 0, Some(reset_type), none, None),
+            Call::SecurityAccess { access_type, data } => (3, 0, Some(access_type), none, data),
+            Call::TesterPresent => (4, 0, None, none, None),
+            Call::ReadMemoryByAddress { memory } => (5, 0, None, memory, None),
+            Call::WriteMemoryByAddress { memory, data } => (6, 0, None, memory, Some(data)),
+            Call::ReadDataByIdentifier { identifier } => (7, identifier, None, none, None),
+            Call::WriteDataByIdentifier { identifier, data } => {
+                (8, identifier, None, none, Some(data))
+            }
+            Call::ReadDTCInformationNumberOfDTCByStatusMask { status_mask } => {
+                (9, status_mask.into(), None, none, None)
+            }
+            Call::RoutineControl {
+                control_type,
+                identifier,
+                data,
+            } => (10, identifier, Some(control_type), none, data),
+            Call::RequestDownload {
+                compression,
+                encryption,
+                memory,
+            } => (11, methods(compression, encryption), None, memory, None),
+            Call::RequestUpload {
+                compression,
+                encryption,
+                memory,
+            } => (12, methods(compression, encryption), None, memory, None),
+            Call::TransferData { counter, data } => (13, counter.into(), None, none, data),
+            Call::RequestTransferExit { data } => (14, 0, None, none, data),
+        };
+        let mut arguments = Vec::new();
+        let memory = match memory {
+            Memory::Bytes { address, size } => {
+                let address = &address[..address.len().min(TOO_LONG)];
+                let size = &size[..size.len().min(TOO_LONG)];
+                arguments.extend([address, size].concat());
+                door::Memory::Lengths {
+                    address: address.len() as u8,
+                    size: size.len() as u8,
+                }
+            }
+            Memory::Alfid {
+                address,
+                size,
+                address_width,
+                size_width,
+            } => door::Memory::Alfid {
+                address,
+                size,
+                address_width,
+                size_width,
+            },
+        };
+        arguments.extend(data.unwrap_or_default());
+        let flags = [
+            (STRICT, config.strict),
+            (SERVER_TIMING, config.server_timing),
+            (SUPPRESSED, config.suppressed),
+            (LIMITED, config.timeout.is_some()),
+            (SUB, call == 0 && sub.is_some()),
+            (DATA, data.is_some()),
+        ];
+        let fields = Fields {
+            call,
+            flags: flags
+                .iter()
+                .map(|&(weight, set)| weight * u8::from(set))
+                .sum(),
+            value,
+            sub: sub.unwrap_or(0),
+            memory,
+            limit: config.timeout.unwrap_or(0),
+        };
+        Asked { fields, arguments }
+    }
+
+    /// The whole call. `events` are those of [`Events`], or a log's; `replies` are the bytes that they name parts of.
+    pub fn answer<'q, 'r>(
+        &self,
+        session: &mut Session,
+        request: &'q mut [u8],
+        events: &[u8],
+        replies: &'r [u8],
+    ) -> Answer<'q, 'r> {
+        let mut numbers: Numbers = [0; number::COUNT];
+        let lent = Lent {
+            arguments: &self.arguments,
+            request: &mut *request,
+            events,
+            replies,
+        };
+        let result = door::call(
+            self.fields,
+            [session.p2, session.p2_star],
+            lent,
+            &mut numbers,
+        );
+        assert_eq!(result, door::DONE, "the fields of {self:?} ask no call");
+        let n = |at: usize| numbers[at] as usize;
+        *session = Session {
+            p2: numbers[number::P2] as u32,
+            p2_star: numbers[number::P2_STAR] as u32,
+        };
+        Answer {
+            outcome: outcome(
+                &numbers,
+                &replies[n(number::DATA_AT)..][..n(number::DATA_LENGTH)],
+            ),
+            time: numbers[number::TIME],
+            events: n(number::EVENTS),
+            notices: n(number::NOTICES),
+            reply: &replies[n(number::REPLY_AT)..][..n(number::REPLY_LENGTH)],
+            block_length: numbers[number::BLOCK_LENGTH],
+            request: &request[..n(number::REQUEST_LENGTH)],
+        }
+    }
+}
+
+fn outcome<'r>(numbers: &Numbers, data: &'r [u8]) -> Outcome<'r> {
+    let detail = numbers[number::DETAIL];
+    match numbers[number::OUTCOME] {
+        0 => Outcome::PositiveResponse(data),
+        1 => Outcome::Suppressed,
+        2 => Outcome::NegativeResponse(detail as u8),
+        3 => Outcome::Timeout,
+        4 => Outcome::Disconnected,
+        5 => Outcome::Transport(detail as u16),
+        6 => Outcome::ProtocolDeviation(deviation(numbers)),
+        7 => Outcome::InvalidResponseLength,
+        8 => Outcome::BlockLengthOverflow,
+        9 => Outcome::Refused(detail as u8),
+        other => unreachable!("the library is proved to number no outcome {other}"),
+    }
+}
+
+fn deviation(numbers: &Numbers) -> ProtocolDeviation {
+    match numbers[number::DETAIL] {
+        1 => ProtocolDeviation::InvalidServiceId,
+        2 => ProtocolDeviation::InvalidRequestServiceId,
+        3 => ProtocolDeviation::InvalidSubFunction,
+        4 => ProtocolDeviation::UnexpectedPositiveResponse,
+        5 => ProtocolDeviation::InvalidDataIdentifier,
+        6 => ProtocolDeviation::InvalidRoutineIdentifier,
+        7 => ProtocolDeviation::InvalidBlockSequenceCounter,
+        8 => ProtocolDeviation::InvalidResponseLength {
+            minimum: numbers[number::LEAST],
+            maximum: Some(numbers[number::MOST]).filter(|&most| most != u64::MAX),
+        },
+        9 => ProtocolDeviation::InvalidLengthFormat,
+        10 => ProtocolDeviation::InvalidLengthFormatIdentifier,
+        11 => ProtocolDeviation::InvalidMaxNumberOfBlockLength,
+        12 => ProtocolDeviation::InvalidAddressAndLengthFormatIdentifier,
+        13 => ProtocolDeviation::InvalidMemoryAddress,
+        14 => ProtocolDeviation::InvalidMemorySize,
+        15 => ProtocolDeviation::InvalidMemoryRecordLength,
+        other => unreachable!("the library is proved to number no deviation {other}"),
+    }
+}
+
+impl ProtocolDeviation {
+    /// Document 01's number.
+    pub fn number(self) -> u8 {
+        match self {
+            ProtocolDeviation::InvalidServiceId => 1,
+            ProtocolDeviation::InvalidRequestServiceId => 2,
+            ProtocolDeviation::InvalidSubFunction => 3,
+            ProtocolDeviation::UnexpectedPositiveResponse => 4,
+            ProtocolDeviation::InvalidDataIdentifier => 5,
+            ProtocolDeviation::InvalidRoutineIdentifier => 6,
+            ProtocolDeviation::InvalidBlockSequenceCounter => 7,
+            ProtocolDeviation::InvalidResponseLength { .. } => 8,
+            ProtocolDeviation::InvalidLengthFormat => 9,
+            ProtocolDeviation::InvalidLengthFormatIdentifier => 10,
+            ProtocolDeviation::InvalidMaxNumberOfBlockLength => 11,
+            ProtocolDeviation::InvalidAddressAndLengthFormatIdentifier => 12,
+            ProtocolDeviation::InvalidMemoryAddress => 13,
+            ProtocolDeviation::InvalidMemorySize => 14,
+            ProtocolDeviation::InvalidMemoryRecordLength => 15,
+        }
+    }
+}

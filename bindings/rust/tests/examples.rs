@@ -1,0 +1,462 @@
+//! The ten examples of document 01 through the bindings, the requests of all calls, and what the bindings add: enums, slices, a session.
+
+use bintrochis::{
+    Answer, Asked, Call, Config, Events, Memory, Outcome, ProtocolDeviation, Session,
+    LONGEST_REQUEST,
+};
+
+const STRICT: Config = Config {
+    strict: true,
+    server_timing: true,
+    suppressed: false,
+    timeout: None,
+};
+const LENIENT: Config = Config {
+    strict: false,
+    ..STRICT
+};
+const QUIET: Config = Config {
+    suppressed: true,
+    ..STRICT
+};
+const READ: Call<'static> = Call::ReadDataByIdentifier { identifier: 0xf190 };
+const RESET: Call<'static> = Call::EcuReset { reset_type: 0x81 };
+
+fn until(limit: u32) -> Config {
+    Config {
+        timeout: Some(limit),
+        ..STRICT
+    }
+}
+
+/// What a call answers to replies at their times; P2 is 50 and P2* 5000.
+fn told(call: Call<'_>, config: Config, said: &[(u32, &[u8])], check: impl FnOnce(Answer<'_, '_>)) {
+    let mut events = Events::new();
+    let mut replies = Vec::new();
+    for &(time, reply) in said {
+        events.reply(time, replies.len() as u16, reply.len() as u16);
+        replies.extend_from_slice(reply);
+    }
+    let mut session = Session {
+        p2: 50,
+        p2_star: 5000,
+    };
+    let mut buffer = [0; LONGEST_REQUEST];
+    check(Asked::new(&call, &config).answer(
+        &mut session,
+        &mut buffer,
+        events.as_bytes(),
+        &replies,
+    ));
+}
+
+/// Outcome and finishing time.
+fn gives(call: Call<'_>, config: Config, said: &[(u32, &[u8])], outcome: Outcome<'_>, time: u64) {
+    told(call, config, said, |answer| {
+        assert_eq!((answer.outcome, answer.time), (outcome, time))
+    });
+}
+
+fn deviation(deviation: ProtocolDeviation) -> Outcome<'static> {
+    Outcome::ProtocolDeviation(deviation)
+}
+
+fn length(minimum: u64, maximum: Option<u64>) -> Outcome<'static> {
+    deviation(ProtocolDeviation::InvalidResponseLength { minimum, maximum })
+}
+
+#[test]
+fn a_wait_notice_first() {
+    let said = |time| {
+        [
+            (20, &[0x7f, 0x22, 0x78][..]),
+            (time, &[0x62, 0xf1, 0x90, 0x41, 0x42][..]),
+        ]
+    };
+    told(READ, STRICT, &said(900), |answer| {
+        assert_eq!(answer.outcome, Outcome::PositiveResponse(&[0x41, 0x42]));
+        assert_eq!((answer.time, answer.events, answer.notices), (900, 2, 1));
+        assert_eq!(answer.reply, [0x62, 0xf1, 0x90, 0x41, 0x42]);
+        assert_eq!(answer.request, [0x22, 0xf1, 0x90]);
+    });
+    gives(
+        READ,
+        STRICT,
+        &said(5020),
+        Outcome::PositiveResponse(&[0x41, 0x42]),
+        5020,
+    );
+    gives(READ, STRICT, &said(5021), Outcome::Timeout, 5020);
+    gives(
+        READ,
+        until(900),
+        &said(900),
+        Outcome::PositiveResponse(&[0x41, 0x42]),
+        900,
+    );
+    gives(READ, until(899), &said(900), Outcome::Timeout, 899);
+}
+
+#[test]
+fn silence() {
+    gives(Call::TesterPresent, STRICT, &[], Outcome::Timeout, 50);
+    gives(Call::TesterPresent, QUIET, &[], Outcome::Suppressed, 50);
+}
+
+#[test]
+fn replies_to_a_suppressed_reset() {
+    let positive = [(10, &[0x51, 0x01][..])];
+    gives(
+        RESET,
+        STRICT,
+        &positive,
+        deviation(ProtocolDeviation::UnexpectedPositiveResponse),
+        10,
+    );
+    gives(
+        RESET,
+        LENIENT,
+        &positive,
+        Outcome::PositiveResponse(&[]),
+        50,
+    );
+    gives(
+        RESET,
+        STRICT,
+        &[(10, &[0x7f, 0x11, 0x22])],
+        Outcome::NegativeResponse(0x22),
+        50,
+    );
+}
+
+#[test]
+fn a_notice_to_another_service() {
+    let said = [(10, &[0x7f, 0x31, 0x78][..])];
+    gives(
+        READ,
+        STRICT,
+        &said,
+        deviation(ProtocolDeviation::InvalidRequestServiceId),
+        10,
+    );
+    gives(READ, LENIENT, &said, Outcome::Timeout, 5010);
+}
+
+#[test]
+fn memory_of_no_bytes() {
+    let memory = Memory::Bytes {
+        address: &[0x20, 0x00],
+        size: &[0x00],
+    };
+    let call = Call::ReadMemoryByAddress { memory };
+    gives(call, STRICT, &[(10, &[0x63])], length(2, None), 10);
+    gives(
+        call,
+        STRICT,
+        &[(10, &[0x63, 0xaa])],
+        deviation(ProtocolDeviation::InvalidMemoryRecordLength),
+        10,
+    );
+}
+
+#[test]
+fn block_lengths() {
+    let memory = Memory::Alfid {
+        address: 0x2000,
+        size: 0x1000,
+        address_width: 2,
+        size_width: 2,
+    };
+    let call = Call::RequestDownload {
+        compression: 0,
+        encryption: 0,
+        memory,
+    };
+    told(call, STRICT, &[(10, &[0x74, 0x20, 0x0f, 0xfa])], |answer| {
+        assert_eq!(answer.outcome, Outcome::PositiveResponse(&[0x0f, 0xfa]));
+        assert_eq!(answer.block_length, 4090);
+        assert_eq!(answer.request, [0x34, 0x00, 0x22, 0x20, 0x00, 0x10, 0x00]);
+    });
+    gives(
+        call,
+        STRICT,
+        &[(10, &[0x74, 0x10, 0x02])],
+        deviation(ProtocolDeviation::InvalidMaxNumberOfBlockLength),
+        10,
+    );
+    gives(
+        call,
+        STRICT,
+        &[(10, &[0x74, 0x90, 1, 0, 0, 0, 0, 0, 0, 0, 0])],
+        Outcome::BlockLengthOverflow,
+        10,
+    );
+}
+
+#[test]
+fn a_service_whose_positive_begins_with_7f() {
+    let call = Call::Request {
+        sid: 0x3f,
+        sub_function: None,
+        data: None,
+    };
+    gives(call, STRICT, &[(10, &[0x7f, 0x01])], length(3, Some(3)), 10);
+}
+
+#[test]
+fn the_request_of_every_call() {
+    let memory = Memory::Bytes {
+        address: &[0x20, 0x00],
+        size: &[0x04],
+    };
+    let data = Some(&[0xaa, 0xbb][..]);
+    let calls: [(Call, &[u8]); 16] = [
+        (
+            Call::Request {
+                sid: 0x85,
+                sub_function: Some(2),
+                data,
+            },
+            &[0x85, 0x02, 0xaa, 0xbb],
+        ),
+        (
+            Call::Request {
+                sid: 0x85,
+                sub_function: None,
+                data: None,
+            },
+            &[0x85],
+        ),
+        (
+            Call::DiagnosticSessionControl { session_type: 3 },
+            &[0x10, 0x03],
+        ),
+        (Call::EcuReset { reset_type: 1 }, &[0x11, 0x01]),
+        (
+            Call::SecurityAccess {
+                access_type: 2,
+                data,
+            },
+            &[0x27, 0x02, 0xaa, 0xbb],
+        ),
+        (Call::TesterPresent, &[0x3e, 0x00]),
+        (
+            Call::ReadMemoryByAddress { memory },
+            &[0x23, 0x12, 0x20, 0x00, 0x04],
+        ),
+        (
+            Call::WriteMemoryByAddress {
+                memory,
+                data: &[0xaa],
+            },
+            &[0x3d, 0x12, 0x20, 0x00, 0x04, 0xaa],
+        ),
+        (READ, &[0x22, 0xf1, 0x90]),
+        (
+            Call::WriteDataByIdentifier {
+                identifier: 0xf190,
+                data: &[],
+            },
+            &[0x2e, 0xf1, 0x90],
+        ),
+        (
+            Call::ReadDTCInformationNumberOfDTCByStatusMask { status_mask: 9 },
+            &[0x19, 0x01, 0x09],
+        ),
+        (
+            Call::RoutineControl {
+                control_type: 1,
+                identifier: 0x0203,
+                data,
+            },
+            &[0x31, 0x01, 0x02, 0x03, 0xaa, 0xbb],
+        ),
+        (
+            Call::RequestDownload {
+                compression: 1,
+                encryption: 2,
+                memory,
+            },
+            &[0x34, 0x12, 0x12, 0x20, 0x00, 0x04],
+        ),
+        (
+            Call::RequestUpload {
+                compression: 1,
+                encryption: 2,
+                memory,
+            },
+            &[0x35, 0x12, 0x12, 0x20, 0x00, 0x04],
+        ),
+        (
+            Call::TransferData { counter: 0, data },
+            &[0x36, 0x00, 0xaa, 0xbb],
+        ),
+        (Call::RequestTransferExit { data: None }, &[0x37]),
+    ];
+    for (call, request) in calls {
+        told(call, STRICT, &[], |answer| {
+            assert_eq!(answer.request, request, "{call:?}")
+        });
+    }
+    told(Call::TesterPresent, QUIET, &[], |answer| {
+        assert_eq!(answer.request, [0x3e, 0x80])
+    });
+}
+
+#[test]
+fn refusals() {
+    let refused = |call: Call<'_>, number| {
+        told(call, STRICT, &[(10, &[0x7f])], |answer| {
+            assert_eq!(
+                (answer.outcome, answer.time),
+                (Outcome::Refused(number), 0),
+                "{call:?}"
+            );
+            assert_eq!(
+                (answer.events, answer.notices, answer.request),
+                (0, 0, &[][..])
+            );
+        });
+    };
+    let long = [1; 300];
+    let bytes = |address, size| Memory::Bytes { address, size };
+    let alfid = |address, address_width| Memory::Alfid {
+        address,
+        size: 1,
+        address_width,
+        size_width: 1,
+    };
+    refused(
+        Call::SecurityAccess {
+            access_type: 2,
+            data: None,
+        },
+        1,
+    );
+    refused(
+        Call::ReadMemoryByAddress {
+            memory: bytes(&[], &[1]),
+        },
+        2,
+    );
+    refused(
+        Call::ReadMemoryByAddress {
+            memory: bytes(&long, &[]),
+        },
+        2,
+    );
+    refused(
+        Call::ReadMemoryByAddress {
+            memory: bytes(&[1], &long),
+        },
+        3,
+    );
+    refused(
+        Call::RequestUpload {
+            compression: 16,
+            encryption: 16,
+            memory: bytes(&[], &[]),
+        },
+        4,
+    );
+    refused(
+        Call::RequestUpload {
+            compression: 15,
+            encryption: 16,
+            memory: bytes(&[], &[]),
+        },
+        5,
+    );
+    refused(
+        Call::ReadMemoryByAddress {
+            memory: alfid(1, 9),
+        },
+        6,
+    );
+    refused(
+        Call::ReadMemoryByAddress {
+            memory: alfid(256, 1),
+        },
+        7,
+    );
+    refused(
+        Call::WriteDataByIdentifier {
+            identifier: 1,
+            data: &[0; 4093],
+        },
+        8,
+    );
+    refused(
+        Call::WriteDataByIdentifier {
+            identifier: 1,
+            data: &[0; 70_000],
+        },
+        8,
+    );
+
+    let mut session = Session {
+        p2: 50,
+        p2_star: 5000,
+    };
+    let asked = Asked::new(&READ, &STRICT);
+    let outcome = asked.answer(&mut session, &mut [0; 2], &[], &[]).outcome;
+    assert_eq!(outcome, Outcome::Refused(9));
+    let mut falling = Events::new();
+    falling.idle(2).idle(1);
+    let outcome = asked
+        .answer(&mut session, &mut [0; 3], falling.as_bytes(), &[])
+        .outcome;
+    assert_eq!(outcome, Outcome::Refused(10));
+}
+
+#[test]
+fn other_events() {
+    let mut session = Session {
+        p2: 50,
+        p2_star: 5000,
+    };
+    let asked = Asked::new(&READ, &STRICT);
+    let mut events = Events::new();
+    events.idle(7).error(8, 0x1234).end(9);
+    let mut buffer = [0; 3];
+    let answer = asked.answer(&mut session, &mut buffer, events.as_bytes(), &[]);
+    assert_eq!(
+        (answer.outcome, answer.time, answer.events),
+        (Outcome::Transport(0x1234), 8, 2)
+    );
+    let mut events = Events::new();
+    events.end(9);
+    let answer = asked.answer(&mut session, &mut buffer, events.as_bytes(), &[]);
+    assert_eq!(
+        (answer.outcome, answer.time, answer.events),
+        (Outcome::Disconnected, 9, 1)
+    );
+}
+
+#[test]
+fn the_session_is_set_by_call_1_alone() {
+    let reply = [0x50, 0x03, 0x00, 0x19, 0x01, 0xf4];
+    let mut events = Events::new();
+    events.reply(10, 0, 6);
+    let call = Call::DiagnosticSessionControl { session_type: 3 };
+    let mut buffer = [0; 2];
+    let old = Session {
+        p2: 50,
+        p2_star: 5000,
+    };
+    let mut session = old;
+    let deaf = Config {
+        server_timing: false,
+        ..STRICT
+    };
+    Asked::new(&call, &deaf).answer(&mut session, &mut buffer, events.as_bytes(), &reply);
+    assert_eq!(session, old);
+    Asked::new(&call, &STRICT).answer(&mut session, &mut buffer, events.as_bytes(), &reply);
+    assert_eq!(
+        session,
+        Session {
+            p2: 25,
+            p2_star: 5000
+        }
+    );
+}
