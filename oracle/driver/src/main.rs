@@ -1,6 +1,6 @@
 //! oracle: the original's UDS client, document 01's rules and the proved library on the same cases. README.md says what
 //! each command does.
-#![deny(unsafe_code)]
+#![forbid(unsafe_code)]
 
 mod compare;
 mod direct;

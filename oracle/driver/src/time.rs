@@ -43,13 +43,11 @@ fn engines(cases: &[Case]) -> Vec<Engine<'_>> {
     #[cfg(feature = "proved")]
     let engines = {
         let prepared: Vec<_> = cases.iter().map(crate::proved::prepare).collect();
-        let mut answer = [0; crate::proved::answer::LENGTH];
         let proved = Engine {
             name: "proved",
             pass: Box::new(move || {
                 for case in &prepared {
-                    crate::proved::call(black_box(case), &mut buffer, &mut answer);
-                    black_box(&answer);
+                    black_box(crate::proved::call(black_box(case), &mut buffer));
                 }
             }),
         };
