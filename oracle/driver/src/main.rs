@@ -23,7 +23,7 @@ oracle compare SIDE [SEED] [full]  the original against SIDE on millions of gene
 oracle sample SIDE [SEED]          the same on some of each kind of them
 oracle faults SIDE [SEED]          that faults in the inputs of SIDE are noticed
 oracle list PREFIX [SEED]          writes the fixed list, PREFIX.bin and PREFIX.expected
-oracle time [SEED]                 what a call costs
+oracle time [SEED] [LOGS]          what a call costs, on the logs of a file too
 SIDE is direct or, where the driver was built with it, proved. SEED is a number, 1 if left out.";
 
 fn side(name: &str) -> Result<compare::Side, String> {
@@ -57,7 +57,8 @@ fn run(words: &[&str]) -> Result<usize, String> {
         ["sample", name, more @ ..] => faults::sample(side(name)?, seed(more.first())?),
         ["faults", name, more @ ..] => faults::faults(side(name)?, seed(more.first())?),
         ["list", prefix, more @ ..] => list::list(prefix, seed(more.first())?),
-        ["time", more @ ..] => time::time(seed(more.first())?),
+        ["time", number, logs] => time::time(seed(Some(number))?, Some(logs)),
+        ["time", more @ ..] => time::time(seed(more.first())?, None),
         _ => Err(format!("Usage:\n{USAGE}")),
     }
 }

@@ -1,12 +1,13 @@
 //! What a call costs: the original under its paused clock, the direct program and (where it is linked) the proved library
 //! on the same cases in one run, repeated, with the spread of the ratios.
 
-use crate::direct;
+use crate::compare::has_counterpart;
 use crate::generate::{good_reply, sample_calls, GENERATORS};
 use crate::model::{Call, Case, Setting, IDLE};
 use crate::original::Original;
 use crate::rng::Rng;
 use crate::sample::generator_rng;
+use crate::{direct, log};
 use std::hint::black_box;
 use std::time::Instant;
 
@@ -124,11 +125,22 @@ fn notices(count: usize) -> Case {
     case
 }
 
+/// The sound logs of a file that have a counterpart in the original.
+fn logged(path: &str) -> Result<Vec<Case>, String> {
+    let file = std::fs::read(path).map_err(|error| format!("{path} cannot be read: {error}."))?;
+    let cases = log::split(&file)?.into_iter().filter_map(log::read);
+    Ok(cases.filter(has_counterpart).collect())
+}
+
 /// The command.
-pub fn time(seed: u64) -> Result<usize, String> {
+pub fn time(seed: u64, logs: Option<&str>) -> Result<usize, String> {
     println!(
         "Each line: nanoseconds a case, the middle of {ROUNDS} rounds (the least to the most)."
     );
+    if let Some(path) = logs {
+        let cases = logged(path)?;
+        report(&format!("{} logs of {path}", cases.len()), &cases);
+    }
     let mut rng = Rng::new(seed);
     let mut mixed = Vec::new();
     for (at, generator) in GENERATORS.iter().enumerate() {

@@ -1,0 +1,144 @@
+/* stack LOGS: how much stack one whole call of the proved library takes, for each log of a file (each after its length as u32,
+ * big-endian) whose numbers ask a call, and for the alfid forms of calls 5, 6, 11 and 12.
+ *
+ * A call runs on a stack of its own that was painted before; what it left unpainted is counted, once for each of two paints. What an
+ * empty function takes in its place is subtracted. */
+#include <stdint.h>
+#include <stdio.h>
+#include <stdlib.h>
+#include <string.h>
+#include <ucontext.h>
+
+#include "bintrochis.h"
+
+enum { ROOM = 1 << 18, HEADER = 36 };
+
+static _Alignas(64) unsigned char stack[ROOM];
+static ucontext_t here, there;
+static void (*body)(void);
+
+/* What a call is given. */
+static const uint8_t *header, *arguments, *events, *replies;
+static size_t argument_count, event_bytes, reply_count;
+static uint8_t request[BINTROCHIS_LONGEST_REQUEST], result;
+static uint64_t answer[BINTROCHIS_NUMBERS];
+
+static size_t u16_at(const uint8_t *p) { return (size_t)p[0] << 8 | p[1]; }
+static uint32_t u32_at(const uint8_t *p) { return (uint32_t)u16_at(p) << 16 | (uint32_t)u16_at(p + 2); }
+
+static void nothing(void) {}
+
+static void in_bytes(void) {
+    result = bintrochis_call(header[2], header[3], (uint16_t)u16_at(header + 4), header[6], header[7], header[8], u32_at(header + 24),
+                             u32_at(header + 28), u32_at(header + 32), arguments, argument_count, request, sizeof request, events, event_bytes,
+                             replies, reply_count, answer);
+}
+
+static void in_numbers(void) {
+    result = bintrochis_call_alfid(header[2], header[3], header[2] > 10 ? 0x0102 : 0, 0x0102030405060708, 0x1112131415161718, 8, 8, 50, 5000, 0, arguments,
+                                   argument_count, request, sizeof request, events, event_bytes, replies, reply_count, answer);
+}
+
+static void enter(void) { body(); }
+
+static size_t taken_with(unsigned char paint) {
+    memset(stack, paint, sizeof stack);
+    getcontext(&there);
+    there.uc_stack.ss_sp = stack;
+    there.uc_stack.ss_size = sizeof stack;
+    there.uc_link = &here;
+    makecontext(&there, enter, 0);
+    swapcontext(&here, &there);
+    size_t left = 0;
+    while (left < sizeof stack && stack[left] == paint) {
+        left++;
+    }
+    return sizeof stack - left;
+}
+
+static size_t taken(void (*of)(void)) {
+    body = of;
+    const size_t one = taken_with(0xa5), other = taken_with(0x5a);
+    return one > other ? one : other;
+}
+
+static int by_size(const void *a, const void *b) {
+    const size_t x = *(const size_t *)a, y = *(const size_t *)b;
+    return (x > y) - (x < y);
+}
+
+static void say(const char *name, size_t *sizes, size_t count) {
+    qsort(sizes, count, sizeof *sizes, by_size);
+    printf("%s: %zu calls; largest %zu bytes, middle %zu, smallest %zu\n", name, count, sizes[count - 1], sizes[count / 2], sizes[0]);
+}
+
+int main(int count, char **words) {
+    if (count != 2) {
+        fprintf(stderr, "stack LOGS\n");
+        return 2;
+    }
+    FILE *file = fopen(words[1], "rb");
+    if (!file) {
+        fprintf(stderr, "%s cannot be read.\n", words[1]);
+        return 2;
+    }
+    enum { MOST = 1 << 16, LONGEST = 1 << 17 };
+    static size_t sizes[MOST];
+    static uint8_t length[4], log[LONGEST];
+    const size_t empty = taken(nothing);
+    size_t calls = 0;
+    while (calls < MOST && fread(length, 1, 4, file) == 4) {
+        const size_t size = u32_at(length);
+        if (size > LONGEST || fread(log, 1, size, file) != size) {
+            fprintf(stderr, "%s ends within a log.\n", words[1]);
+            return 2;
+        }
+        if (size < HEADER) {
+            continue;
+        }
+        header = log;
+        argument_count = u16_at(log + 10);
+        event_bytes = u16_at(log + 14) * BINTROCHIS_EVENT;
+        reply_count = u16_at(log + 18);
+        if (HEADER + argument_count + event_bytes + reply_count != size) {
+            continue;
+        }
+        arguments = log + HEADER;
+        events = arguments + argument_count;
+        replies = events + event_bytes;
+        const size_t bytes = taken(in_bytes);
+        if (result == BINTROCHIS_DONE) {
+            sizes[calls++] = bytes - empty;
+        }
+    }
+    fclose(file);
+    if (calls == 0) {
+        fprintf(stderr, "No log of %s asks a call.\n", words[1]);
+        return 2;
+    }
+    say("calls with bytes", sizes, calls);
+
+    static const uint8_t four[] = {5, 6, 11, 12};
+    static uint8_t data[4000], heard[BINTROCHIS_EVENT] = {0, 0, 0, 10, 0, 0, 0, 0, 0, 4}, said[] = {0x7f, 0x22, 0x33, 0};
+    static uint8_t fields[HEADER];
+    calls = 0;
+    for (size_t i = 0; i < sizeof four; i++) {
+        for (uint8_t strict = 0; strict < 2; strict++) {
+            fields[2] = four[i];
+            fields[3] = (uint8_t)(strict | (four[i] == 6 ? BINTROCHIS_DATA : 0));
+            header = fields;
+            arguments = data;
+            argument_count = four[i] == 6 ? sizeof data : 0;
+            events = heard;
+            event_bytes = sizeof heard;
+            replies = said;
+            reply_count = sizeof said;
+            const size_t bytes = taken(in_numbers);
+            if (result == BINTROCHIS_DONE) {
+                sizes[calls++] = bytes - empty;
+            }
+        }
+    }
+    say("alfid forms", sizes, calls);
+    return 0;
+}
