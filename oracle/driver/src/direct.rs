@@ -1,4 +1,4 @@
-//! Document 01's rules as a small direct program without async, written from document 01 and not from the original: a
+//! Document 01's rules as a small direct program without async, written from document 01 with the original in mind: a
 //! second opinion, and the baseline of the measurements.
 
 use crate::model::{
