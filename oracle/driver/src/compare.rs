@@ -8,6 +8,7 @@ use crate::original::Original;
 use crate::sample::generator_rng;
 use crate::{direct, log};
 use std::collections::BTreeMap;
+use std::thread;
 
 /// The side that is compared with the original.
 pub type Side = fn(&Case) -> Observed;
@@ -300,18 +301,24 @@ fn pack(case: &mut Case) {
     *case = packed;
 }
 
-/// The command: all generators, and with `full` the long one too. (That one leaves the timing unobserved: a reply of three
-/// bytes sets none, and the shorter run has all of two.)
+/// The command: all generators, and with `full` the long one too, its halves at once. (That one leaves the timing
+/// unobserved: a reply of three bytes sets none, and the shorter run has all of two.)
 pub fn compare(side: Side, seed: u64, full: bool) -> Result<usize, String> {
-    let tally = compare_on(&GENERATORS, seed, side, Original::run);
-    tally.print();
-    let (mut cases, mut failed) = (tally.cases, tally.failed);
+    let mut tallies = vec![compare_on(&GENERATORS, seed, side, Original::run)];
     if full {
-        let tally = compare_on(&[EVERY_THREE_BYTES], seed, side, Original::run_alone);
-        tally.print();
-        cases += tally.cases;
-        failed += tally.failed;
+        let halves = EVERY_THREE_BYTES.map(|half| {
+            thread::spawn(move || compare_on(&[half], seed, side, Original::run_alone))
+        });
+        for half in halves {
+            tallies.push(
+                half.join()
+                    .map_err(|_| "A half of the long run ended early.")?,
+            );
+        }
     }
+    tallies.iter().for_each(Tally::print);
+    let cases: usize = tallies.iter().map(|tally| tally.cases).sum();
+    let failed: usize = tallies.iter().map(|tally| tally.failed).sum();
     println!("{} passed, {failed} failed", cases - failed);
     Ok(failed)
 }
