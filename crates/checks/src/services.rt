@@ -15,7 +15,7 @@ use wire::u16_at;
 ghost use Prim.Native.Nat.{ℕ, _≤_, _<_, _^_};
 ghost use mathlib.Core.Bool.{_&&_};
 ghost use mathlib.Core.List.{List, [], _∷_};
-ghost use mathlib.Core.Option.{none};
+ghost use mathlib.Core.Option.{none, some};
 ghost use mathlib.Core.Path.{_≡_};
 ghost use lib.Dec.{leb, ltb, eqb};
 ghost use lib.ListN.{length, getD, drop};
@@ -23,8 +23,8 @@ ghost use Rattle.rules.specs.After.{most, bounds, atLeast, strictly, lengthByte
 ghost use Rattle.rules.specs.Answers.{overflow};
 ghost use Rattle.rules.specs.Bytes.{value, u16At, same};
 ghost use Rattle.rules.specs.Calls.{given, readMemory, writeMemory, faultCount, routine};
-ghost use Rattle.rules.specs.Checks.{unless};
-ghost use Rattle.exchange.specs.Meaning.{maximumOf, verdictOf, firstOf};
+ghost use Rattle.rules.specs.Checks.{unless, judge, inStrict};
+ghost use Rattle.exchange.specs.Meaning.{maximumOf, deviationOf, verdictOf, firstOf};
 ghost use Rattle.checks.specs.Answered.{asked};
 
 fn wide(b: u8) -> usize
@@ -68,15 +68,40 @@ fn within(len: usize, minimum: usize, maximum: Maximum) -> bool
     }
 }
 
-// "Strict bounds of total length"
-fn validate_response_length(strict: bool, reply: &[u8], minimum: usize, maximum: Maximum) -> Verdict
-    ensures { λ r. ⌜ verdictOf r ≡ firstOf (bounds strict minimum (maximumOf maximum) (now (reply .entry)) ∷ []) ⌝ }
+// "Strict bounds of total length", before the checks of which `next` is the verdict.
+fn bounded(strict: bool, minimum: usize, maximum: Maximum, reply: &[u8], next: Verdict) -> Verdict
+    ensures { λ r. ⌜ verdictOf r ≡ judge some (bounds strict minimum (maximumOf maximum) (now (reply .entry)) ∷ []) (verdictOf next) ⌝ }
 {
     if in_strict(strict, within(reply.len(), minimum, maximum)) {
-        Verdict::Passed
+        next
     } else {
         Verdict::Failed(length_error(strict, minimum, maximum))
     }
+}
+
+fn validate_response_length(strict: bool, reply: &[u8], minimum: usize, maximum: Maximum) -> Verdict
+    ensures { λ r. ⌜ verdictOf r ≡ firstOf (bounds strict minimum (maximumOf maximum) (now (reply .entry)) ∷ []) ⌝ }
+{
+    bounded(strict, minimum, maximum, reply, Verdict::Passed)
+}
+
+// "Both modes then": so many bytes in all. "Strict echoes": whether they repeat what the request has.
+fn echoed(
+    strict: bool,
+    needed: usize,
+    repeats: bool,
+    deviation: ProtocolDeviation,
+    reply: &[u8],
+) -> Verdict
+    ensures { λ r. ⌜ verdictOf r ≡ firstOf (atLeast strict needed (now (reply .entry)) ∷ unless (inStrict strict repeats) (deviationOf deviation) ∷ []) ⌝ }
+{
+    if reply.len() < needed {
+        return Verdict::Failed(length_error(strict, needed, Maximum::None));
+    }
+    if !in_strict(strict, repeats) {
+        return Verdict::Failed(Fault::ProtocolDeviation(deviation));
+    }
+    Verdict::Passed
 }
 
 // "Call 5 strict: record length other than M, deviation 15; then empty, (2, none)."
@@ -124,16 +149,15 @@ fn write_memory_by_address(strict: bool, address: &[u8], size: &[u8], reply: &[u
 fn identified(strict: bool, minimum: usize, maximum: Maximum, id: u16, reply: &[u8]) -> Verdict
     ensures { λ r. ⌜ verdictOf r ≡ firstOf (bounds strict minimum (maximumOf maximum) (now (reply .entry)) ∷ atLeast strict 3 (now (reply .entry)) ∷ strictly strict (eqb (u16At (now (reply .entry)) 1) id) 5 ∷ []) ⌝ }
 {
-    if !in_strict(strict, within(reply.len(), minimum, maximum)) {
-        return Verdict::Failed(length_error(strict, minimum, maximum));
-    }
-    if reply.len() < 3 {
-        return Verdict::Failed(length_error(strict, 3, Maximum::None));
-    }
-    if !in_strict(strict, u16_at(reply, 1) == id) {
-        return Verdict::Failed(Fault::ProtocolDeviation(ProtocolDeviation::InvalidDataIdentifier));
-    }
-    Verdict::Passed
+    let repeats = u16_at(reply, 1) == id;
+    let echo = echoed(
+        strict,
+        3,
+        repeats,
+        ProtocolDeviation::InvalidDataIdentifier,
+        reply,
+    );
+    bounded(strict, minimum, maximum, reply, echo)
 }
 
 // "9 four, strict exactly four, else (6, 6)"
@@ -153,33 +177,29 @@ fn read_dtc_information(strict: bool, reply: &[u8]) -> Verdict
 fn routine_control(strict: bool, id: u16, reply: &[u8]) -> Verdict
     ensures { λ r. ⌜ verdictOf r ≡ firstOf (checks strict (routine 0 id none) (now (reply .entry))) ⌝ }
 {
-    if reply.len() < 4 {
-        return Verdict::Failed(length_error(strict, 4, Maximum::None));
-    }
-    if !in_strict(strict, u16_at(reply, 2) == id) {
-        return Verdict::Failed(Fault::ProtocolDeviation(
-            ProtocolDeviation::InvalidRoutineIdentifier,
-        ));
-    }
-    Verdict::Passed
+    let repeats = u16_at(reply, 2) == id;
+    echoed(
+        strict,
+        4,
+        repeats,
+        ProtocolDeviation::InvalidRoutineIdentifier,
+        reply,
+    )
 }
 
 // "13 (3 or 2, none)" .. "13 one, else (2, none)" .. "13 deviation 7"
 fn transfer_data(strict: bool, minimum: usize, counter: u8, reply: &[u8]) -> Verdict
     ensures { λ r. ⌜ verdictOf r ≡ firstOf (bounds strict minimum none (now (reply .entry)) ∷ atLeast strict 2 (now (reply .entry)) ∷ strictly strict (eqb (getD (now (reply .entry)) 1 0) counter) 7 ∷ []) ⌝ }
 {
-    if !in_strict(strict, within(reply.len(), minimum, Maximum::None)) {
-        return Verdict::Failed(length_error(strict, minimum, Maximum::None));
-    }
-    if reply.len() < 2 {
-        return Verdict::Failed(length_error(strict, 2, Maximum::None));
-    }
-    if !in_strict(strict, byte_at(reply, 1) == counter) {
-        return Verdict::Failed(Fault::ProtocolDeviation(
-            ProtocolDeviation::InvalidBlockSequenceCounter,
-        ));
-    }
-    Verdict::Passed
+    let repeats = byte_at(reply, 1) == counter;
+    let echo = echoed(
+        strict,
+        2,
+        repeats,
+        ProtocolDeviation::InvalidBlockSequenceCounter,
+        reply,
+    );
+    bounded(strict, minimum, Maximum::None, reply, echo)
 }
 
 // "strict value under 3, deviation 11; value above 2^64 − 1, overflow"

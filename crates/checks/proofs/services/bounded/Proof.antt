@@ -1,8 +1,8 @@
--- `checks::services::validate_response_length` meets its contract.
+-- `checks::services::bounded` meets its contract.
 use mathlib.Core.Path.{sym, _∙_}
 use borrow.Author.Needs.{needs}
-use Rattle.checks.proofs.services.validate_response_length.Statement.{statement}
-use Rattle.checks.proofs.services.validate_response_length.Tie as tie
+use Rattle.checks.proofs.services.bounded.Statement.{statement}
+use Rattle.checks.proofs.services.bounded.Tie as tie
 
 within-requires : tie.Need-within-requires
 within-requires c κs = search needs
@@ -23,6 +23,6 @@ returns-2 c = rw (
   (c .length-error .ensures),
 )
 
-pub validate-response-length-spec : {M : Type 1} → statement M
-validate-response-length-spec =
+pub bounded-spec : {M : Type 1} → statement M
+bounded-spec =
     tie.close (tie.spec within-requires in-strict-requires length-error-requires returns returns-2)
