@@ -2,7 +2,7 @@
 use Prim.Native.Nat.{ℕ}
 use native.Mathlib.Omega.{arith}
 use mathlib.Core.Bool.{Bool, true, false, cond, false≢true, true≢false}
-use mathlib.Core.Path.{_≡_, refl, sym, _∙_, ap, subst⁻¹}
+use mathlib.Core.Path.{_≡_, refl, sym, _∙_, ap, subst, subst⁻¹}
 use mathlib.Core.List.{List, [], _++_}
 use mathlib.Core.Option.{Option, none, some}
 use lib.ListN.{length}
@@ -96,15 +96,33 @@ lent-outcome m quiet c replies place (transport n) h = refl
 lent-outcome m quiet c replies place (fault f) h = refl
 lent-outcome m quiet c replies place (refused n) h = refl
 
-module _ (session : Session) (ask : Ask) (before a s d events replies : List ℕ) where
+-- What a whole call is given: the session, what is asked, address, size and data, and what is lent.
+pub record Given : Type 0 where
+  pub session : Session
+  pub ask : Ask
+  pub a : List ℕ
+  pub s : List ℕ
+  pub d : List ℕ
+  pub lent : Lent
+
+module _ (g : Given) where
+  abbrev session : Session
+  session = g .session
+
+  abbrev ask : Ask
+  ask = g .ask
+
   abbrev c : rules.Call
-  c = callOf (ask .call) a s (ask .present) d
+  c = callOf (ask .call) (g .a) (g .s) (ask .present) (g .d)
 
   abbrev w : Setting
   w = settingOf ask session
 
   abbrev l : Lent
-  l = lentOf before events replies
+  l = g .lent
+
+  abbrev judged : exchange.Asked → answers.Answer
+  judged x = guarded (ask .strict) x (w .limit) (l .events) (l .replies)
 
   abbrev reached : answers.Answer
   reached = exchange.exchange (ask .strict) (asked w c) (w .limit) (eventsIn l)
@@ -112,65 +130,66 @@ module _ (session : Session) (ask : Ask) (before a s d events replies : List ℕ
   abbrev right : Result
   right = answered w c l (requestOf (ask .quiet) c) (after (ask .strict) c reached)
 
-  -- What the exchange is asked.
-  pub asks : {sid : ℕ} (sub′ : SubFunction) → sid ≡ sidOf (bare (ask .call)) → subOf sub′ ≡ withBit7 (ask .quiet) (rules.subOf (bare (ask .call)))
-      → askedOf (record { sid = sid; sub = sub′; p2 = session .p2; star = session .star }) ≡ asked w c
-  asks sub′ e f =
-      let same = lead (ask .call) a s (ask .present) d in
+  -- The exchange was asked with the call's SID and sub-function.
+  pub hears : {sid : ℕ} (sub′ : SubFunction) {heard : Answer} → sid ≡ sidOf (bare (ask .call)) → subOf sub′ ≡ withBit7 (ask .quiet) (rules.subOf (bare (ask .call)))
+      → Answers (l .replies) heard (judged (askedOf (record { sid = sid; sub = sub′; p2 = session .p2; star = session .star })))
+      → Answers (l .replies) heard (judged (asked w c))
+  hears sub′ {heard = heard} e f =
+      let same = lead (ask .call) (g .a) (g .s) (ask .present) (g .d) in
       let sid = e ∙ sym (same .0) in
       let sub = f ∙ ap (λ (x : Option ℕ). withBit7 (ask .quiet) x) (sym (same .1)) in
-      λ i. record { sid = sid i; sub = sub i; p2 = session .p2; star = session .star }
+      subst (λ (x : exchange.Asked). Answers (l .replies) heard (judged x)) (λ i. record { sid = sid i; sub = sub i; p2 = session .p2; star = session .star })
 
-  module _ {n : ℕ} (told : n ≡ refusalOf (ask .quiet) c (length before)) where
-    pub turned-away : (n ≡ 0 → ⊥) → Called (ask .strict) w c l (refusedOf session n) before
+  module _ {n : ℕ} (told : n ≡ refusalOf (ask .quiet) c (length (l .buffer))) where
+    pub turned-away : (n ≡ 0 → ⊥) → Called (ask .strict) w c l (refusedOf session n) (l .buffer)
     unfolding call
     turned-away h = record {
-      means = sym (refusing.refused (refuse w l) (ask .quiet) c before events replies right n told h);
+      means = sym (refusing.refused (refuse w l) (ask .quiet) c (l .buffer) (l .events) (l .replies) right n told h);
       outcome = tt;
       reply = omega arith;
     }
 
-    module _ (none-yet : n ≡ 0) {heard : Answer} (answers-it : Answers replies heard (guarded (ask .strict) (asked w c) (w .limit) events replies)) where
-      outcome-heard : outcomeOf replies (heard .outcome) ≡ guarded (ask .strict) (asked w c) (w .limit) events replies .outcome
+    module _ (none-yet : n ≡ 0) {heard : Answer} (answers-it : Answers (l .replies) heard (judged (asked w c))) where
+      outcome-heard : outcomeOf (l .replies) (heard .outcome) ≡ judged (asked w c) .outcome
       outcome-heard = ap (λ (x : answers.Answer). x .outcome) (answers-it .means)
 
-      pub turned-by-events : isRefused (outcomeOf replies (heard .outcome)) ≡ true → Called (ask .strict) w c l (refusedOf session 10) before
+      pub turned-by-events : isRefused (outcomeOf (l .replies) (heard .outcome)) ≡ true → Called (ask .strict) w c l (refusedOf session 10) (l .buffer)
       unfolding call
       turned-by-events h =
-          let broken = breaks (ask .strict) (asked w c) (w .limit) events replies (ap isRefused (sym outcome-heard) ∙ h) in
+          let broken = breaks (ask .strict) (asked w c) (w .limit) (l .events) (l .replies) (ap isRefused (sym outcome-heard) ∙ h) in
           record {
-            means = sym (refusing.outside (refuse w l) (ask .quiet) c before events replies right n told none-yet broken);
+            means = sym (refusing.outside (refuse w l) (ask .quiet) c (l .buffer) (l .events) (l .replies) right n told none-yet broken);
             outcome = tt;
             reply = omega arith;
           }
 
-      pub carried-out : {after′ : List ℕ} {r : Answered} → isRefused (outcomeOf replies (heard .outcome)) ≡ false → after′ ≡ over (requestOf (ask .quiet) c) before
-          → Concluded session ask a s replies heard r → Called (ask .strict) w c l r after′
+      pub carried-out : {after′ : List ℕ} {r : Answered} → isRefused (outcomeOf (l .replies) (heard .outcome)) ≡ false → after′ ≡ over (requestOf (ask .quiet) c) (l .buffer)
+          → Concluded session ask (g .a) (g .s) (l .replies) heard r → Called (ask .strict) w c l r after′
       unfolding call
       carried-out {after′} {r} h written k =
           let m = ask .strict in
-          let kept = keeps m (asked w c) (w .limit) events replies (ap isRefused (sym outcome-heard) ∙ h) in
-          let is-reached : answerOf replies heard ≡ reached = answers-it .means ∙ opens m (asked w c) (w .limit) events replies kept in
-          let p = partOf replies (heard .reply) in
-          let q = outcomeOf replies (heard .outcome) in
+          let kept = keeps m (asked w c) (w .limit) (l .events) (l .replies) (ap isRefused (sym outcome-heard) ∙ h) in
+          let is-reached : answerOf (l .replies) heard ≡ reached = answers-it .means ∙ opens m (asked w c) (w .limit) (l .events) (l .replies) kept in
+          let p = partOf (l .replies) (heard .reply) in
+          let q = outcomeOf (l .replies) (heard .outcome) in
           let headed : Headed (asked w c .sub) p q = subst⁻¹ (λ (x : answers.Answer). Headed (asked w c .sub) (x .reply) (x .outcome)) is-reached (exchange-headed m (asked w c) (w .limit) (eventsIn l)) in
-          let full = as-sent (ask .call) a s (ask .present) d (passes (ask .quiet) c (length before) (sym told ∙ none-yet)) in
-          let outcome : outcomeOf replies (r .answer .outcome) ≡ ifPositive q (λ x. checked m c p) q =
-          k .outcome .means d ∙
-          ap (λ (y : rules.Call). ifPositive q (λ x. checking.answered replies (checked m y p)) q) full ∙
-          lent-outcome m (ask .quiet) c replies (heard .reply) q headed
+          let full = as-sent (ask .call) (g .a) (g .s) (ask .present) (g .d) (passes (ask .quiet) c (length (l .buffer)) (sym told ∙ none-yet)) in
+          let outcome : outcomeOf (l .replies) (r .answer .outcome) ≡ ifPositive q (λ x. checked m c p) q =
+          k .outcome .means (g .d) ∙
+          ap (λ (y : rules.Call). ifPositive q (λ x. checking.answered (l .replies) (checked m y p)) q) full ∙
+          lent-outcome m (ask .quiet) c (l .replies) (heard .reply) q headed
           in
           let number : r .number ≡ numberOf c (ifPositive q (λ x. checked m c p) q) =
-          k .number d ∙ ap (λ (o : Outcome). fitting (numberOf c o)) outcome ∙ number-is m c q p
+          k .number (g .d) ∙ ap (λ (o : Outcome). fitting (numberOf c o)) outcome ∙ number-is m c q p
           in
-          let timing = k .timing d ∙ ap (λ (o : Outcome). rules-after.timingOf (ask .server) c o (timingOf session)) outcome in
-          let told-answer : answerOf replies (r .answer) ≡ after m c (answerOf replies heard) = λ i. answers.answer (outcome i) (k .time i) (k .events i) (k .notices i) (partOf replies (k .reply i)) in
-          let whole : resultOf replies r after′ ≡ answered w c l (requestOf (ask .quiet) c) (after m c (answerOf replies heard)) = λ i. record { answer = told-answer i; number = number i; timing = timing i; buffer = written i } in
+          let timing = k .timing (g .d) ∙ ap (λ (o : Outcome). rules-after.timingOf (ask .server) c o (timingOf session)) outcome in
+          let told-answer : answerOf (l .replies) (r .answer) ≡ after m c (answerOf (l .replies) heard) = λ i. answers.answer (outcome i) (k .time i) (k .events i) (k .notices i) (partOf (l .replies) (k .reply i)) in
+          let whole : resultOf (l .replies) r after′ ≡ answered w c l (requestOf (ask .quiet) c) (after m c (answerOf (l .replies) heard)) = λ i. record { answer = told-answer i; number = number i; timing = timing i; buffer = written i } in
           record {
             means =
                 whole ∙
                 ap (λ (x : answers.Answer). answered w c l (requestOf (ask .quiet) c) (after m c x)) is-reached ∙
-                sym (refusing.accepted (refuse w l) (ask .quiet) c before events replies right n told none-yet kept);
+                sym (refusing.accepted (refuse w l) (ask .quiet) c (l .buffer) (l .events) (l .replies) right n told none-yet kept);
             outcome = k .outcome .inside (answers-it .outcome);
-            reply = subst⁻¹ (λ x. Inside replies x) (k .reply) (answers-it .reply);
+            reply = subst⁻¹ (λ x. Inside (l .replies) x) (k .reply) (answers-it .reply);
           }

@@ -13,7 +13,7 @@ use Rattle.rules.specs.Bytes.{bytesOf}
 use Rattle.rules.specs.Calls as rules
 use Rattle.rules.specs.Calls.{Field, given, alfid, sent}
 use Rattle.rules.specs.Checks.{judge}
-use Rattle.rules.specs.Client.{refuse, call}
+use Rattle.rules.specs.Client.{Result, refuse, call}
 use Rattle.rules.specs.Refusals.{width}
 use Rattle.rules.specs.Settings.{Setting, Lent}
 use Rattle.wire.specs.Memory.{memoryBytes, refused}
@@ -79,64 +79,81 @@ module _ (v w : ℕ) where
   unfolding memoryBytes
   told = by-number refused (width (alfid v w)) _ (numbered-width (alfid v w))
 
-  pub refusal-of : {n : ℕ} → memoryBytes v w .refusal ≡ n → first (width (alfid v w)) ≡ n
-  refusal-of {n} e = go (first (width (alfid v w))) (eqb (first (width (alfid v w))) 0) refl (sym (ap (λ (x : MemoryBytes). x .refusal) told) ∙ e)
-    where
-      go : (f : ℕ) (b : Bool) → eqb f 0 ≡ b → cond b (record { refusal = 0; len = w; bytes = bytesOf w v ++ replicate (15 - w) 0 }) (refused f) .refusal ≡ n → f ≡ n
-      go f true t h = eqb-true f 0 t ∙ h
-      go f false t h = h
+  module _ {x : MemoryBytes} (is : x ≡ memoryBytes v w) where
+    refusal-of : first (width (alfid v w)) ≡ x .refusal
+    refusal-of = sym (ap (λ (y : MemoryBytes). y .refusal) (is ∙ told) ∙ go (first (width (alfid v w))) (eqb (first (width (alfid v w))) 0) refl)
+      where
+        go : (f : ℕ) (b : Bool) → eqb f 0 ≡ b → cond b (record { refusal = 0; len = w; bytes = bytesOf w v ++ replicate (15 - w) 0 }) (refused f) .refusal ≡ f
+        go f true t = sym (eqb-true f 0 t)
+        go f false t = refl
 
-  pub bytes-of : memoryBytes v w .refusal ≡ 0 → take (memoryBytes v w .len) (drop 0 (memoryBytes v w .bytes)) ≡ bytesOf w v
-  bytes-of e =
-      let is : memoryBytes v w ≡ record { refusal = 0; len = w; bytes = bytesOf w v ++ replicate (15 - w) 0 } =
-      told ∙ rw (eq-eqb (first (width (alfid v w))) 0 (refusal-of e))
-      in
-      ap (λ (x : MemoryBytes). take (x .len) (x .bytes)) is ∙
-      take-at (bytesOf w v) (replicate (15 - w) 0) w (bytes-length w v)
+    bytes-of : x .refusal ≡ 0 → take (x .len) (drop 0 (x .bytes)) ≡ bytesOf w v
+    bytes-of passed =
+        let whole : x ≡ record { refusal = 0; len = w; bytes = bytesOf w v ++ replicate (15 - w) 0 } =
+        is ∙ told ∙ rw (eq-eqb (first (width (alfid v w))) 0 (refusal-of ∙ passed))
+        in
+        ap (λ (y : MemoryBytes). take (y .len) (y .bytes)) whole ∙
+        take-at (bytesOf w v) (replicate (15 - w) 0) w (bytes-length w v)
 
-module _ (session : Session) (ask : Ask) (l : Lent) (v u w w′ : ℕ) (d : List ℕ) where
+-- What the `alfid` form is given: the session, what is asked, address and size as numbers with their widths, data, and what is lent.
+pub record Given : Type 0 where
+  pub session : Session
+  pub ask : Ask
+  pub v : ℕ
+  pub u : ℕ
+  pub w : ℕ
+  pub w′ : ℕ
+  pub d : List ℕ
+  pub lent : Lent
+
+module _ (g : Given) where
   abbrev setting : Setting
-  setting = settingOf ask session
+  setting = settingOf (g .ask) (g .session)
+
+  abbrev with′ : Field → Field → rules.Call
+  with′ a s = callFrom (g .ask .call) a s (g .ask .present) (g .d)
 
   abbrev asked : rules.Call
-  asked = callFrom (ask .call) (alfid v w) (alfid u w′) (ask .present) d
+  asked = with′ (alfid (g .v) (g .w)) (alfid (g .u) (g .w′))
 
-  turned : {n : ℕ} → call (ask .strict) setting asked l ≡ refuse setting l n → Called (ask .strict) setting asked l (refusedOf session n) (l .buffer)
+  abbrev done : rules.Call → Result
+  done c = call (g .ask .strict) setting c (g .lent)
+
+  abbrev Means : rules.Call → Answered → List ℕ → Type 0
+  Means c r b = Called (g .ask .strict) setting c (g .lent) r b
+
+  turned : {n : ℕ} → done asked ≡ refuse setting (g .lent) n → Means asked (refusedOf (g .session) n) (g .lent .buffer)
   turned e = record { means = sym e; outcome = tt; reply = omega arith }
 
-  pub without : {r : Answered} {b : List ℕ} → takesMemory (ask .call) ≡ false
-      → Called (ask .strict) setting (callFrom (ask .call) (given []) (given []) (ask .present) d) l r b → Called (ask .strict) setting asked l r b
-  without e k =
-      record {
-        means = k .means ∙ ap (λ (c : rules.Call). call (ask .strict) setting c l) (no-fields (ask .call) _ _ _ _ (ask .present) d e);
-        outcome = k .outcome;
-        reply = k .reply;
-      }
+  moved : {c : rules.Call} {r : Answered} {b : List ℕ} → done c ≡ done asked → Means c r b → Means asked r b
+  moved e k = record { means = k .means ∙ e; outcome = k .outcome; reply = k .reply }
 
-  module _ (takes : takesMemory (ask .call) ≡ true) where
-    by-numbers : call (ask .strict) setting asked l ≡
-        cond (eqb (first (width (alfid v w))) 0)
-        (cond (eqb (first (width (alfid u w′))) 0) (call (ask .strict) setting (callFrom (ask .call) (given (bytesOf w v)) (given (bytesOf w′ u)) (ask .present) d) l) (refuse setting l (first (width (alfid u w′)))))
-        (refuse setting l (first (width (alfid v w))))
+  pub without : {r : Answered} {b : List ℕ} → takesMemory (g .ask .call) ≡ false → Means (with′ (given []) (given [])) r b → Means asked r b
+  without e = moved (ap done (no-fields (g .ask .call) _ _ _ _ (g .ask .present) (g .d) e))
+
+  module _ (takes : takesMemory (g .ask .call) ≡ true) where
+    by-numbers : done asked ≡
+        cond (eqb (first (width (alfid (g .v) (g .w)))) 0)
+        (cond (eqb (first (width (alfid (g .u) (g .w′)))) 0) (done (with′ (given (bytesOf (g .w) (g .v))) (given (bytesOf (g .w′) (g .u))))) (refuse setting (g .lent) (first (width (alfid (g .u) (g .w′))))))
+        (refuse setting (g .lent) (first (width (alfid (g .v) (g .w)))))
     by-numbers =
-        widths (ask .strict) setting l (alfid v w) (alfid u w′) (ask .present) d (ask .call) takes ∙
-        by-number (refuse setting l) (width (alfid v w)) _ (numbered-width (alfid v w)) ∙
-        rw (by-number (refuse setting l) (width (alfid u w′)) (call (ask .strict) setting (callFrom (ask .call) (given (bytesOf w v)) (given (bytesOf w′ u)) (ask .present) d) l) (numbered-width (alfid u w′)))
+        widths (g .ask .strict) setting (g .lent) (alfid (g .v) (g .w)) (alfid (g .u) (g .w′)) (g .ask .present) (g .d) (g .ask .call) takes ∙
+        by-number (refuse setting (g .lent)) (width (alfid (g .v) (g .w))) _ (numbered-width (alfid (g .v) (g .w))) ∙
+        rw (by-number (refuse setting (g .lent)) (width (alfid (g .u) (g .w′))) (done (with′ (given (bytesOf (g .w) (g .v))) (given (bytesOf (g .w′) (g .u))))) (numbered-width (alfid (g .u) (g .w′))))
 
-    pub address-refused : {n : ℕ} → memoryBytes v w .refusal ≡ n → (n ≡ 0 → ⊥) → Called (ask .strict) setting asked l (refusedOf session n) (l .buffer)
-    address-refused {n} e h = turned (by-numbers ∙ rw (refusal-of v w e, ne-eqb n 0 h))
+    module _ {a : MemoryBytes} (as-address : a ≡ memoryBytes (g .v) (g .w)) where
+      pub address-refused : (a .refusal ≡ 0 → ⊥) → Means asked (refusedOf (g .session) (a .refusal)) (g .lent .buffer)
+      address-refused h = turned (by-numbers ∙ rw (refusal-of _ _ as-address, ne-eqb _ 0 h))
 
-    pub size-refused : {n : ℕ} → memoryBytes v w .refusal ≡ 0 → memoryBytes u w′ .refusal ≡ n → (n ≡ 0 → ⊥) → Called (ask .strict) setting asked l (refusedOf session n) (l .buffer)
-    size-refused {n} e f h = turned (by-numbers ∙ rw (refusal-of v w e, refusal-of u w′ f, ne-eqb n 0 h))
+      module _ (address-passed : a .refusal ≡ 0) {s : MemoryBytes} (as-size : s ≡ memoryBytes (g .u) (g .w′)) where
+        pub size-refused : (s .refusal ≡ 0 → ⊥) → Means asked (refusedOf (g .session) (s .refusal)) (g .lent .buffer)
+        size-refused h = turned (by-numbers ∙ rw (refusal-of _ _ as-address, address-passed, refusal-of _ _ as-size, ne-eqb _ 0 h))
 
-    pub as-bytes : {a s b : List ℕ} {r : Answered} → memoryBytes v w .refusal ≡ 0 → memoryBytes u w′ .refusal ≡ 0 → a ≡ bytesOf w v → s ≡ bytesOf w′ u
-        → Called (ask .strict) setting (callFrom (ask .call) (given a) (given s) (ask .present) d) l r b → Called (ask .strict) setting asked l r b
-    as-bytes e f x y k =
-        record {
-          means =
-              k .means ∙
-              ap₂ (λ (g h : List ℕ). call (ask .strict) setting (callFrom (ask .call) (given g) (given h) (ask .present) d) l) x y ∙
-              sym (by-numbers ∙ rw (refusal-of v w e, refusal-of u w′ f));
-          outcome = k .outcome;
-          reply = k .reply;
-        }
+        pub as-bytes : {address size b : List ℕ} {r : Answered} → s .refusal ≡ 0
+            → address ≡ take (a .len) (drop 0 (a .bytes)) → size ≡ take (s .len) (drop 0 (s .bytes))
+            → Means (with′ (given address) (given size)) r b → Means asked r b
+        as-bytes size-passed x y =
+            let in-bytes : done asked ≡ done (with′ (given (bytesOf (g .w) (g .v))) (given (bytesOf (g .w′) (g .u)))) =
+            by-numbers ∙ rw (refusal-of _ _ as-address, address-passed, refusal-of _ _ as-size, size-passed)
+            in
+            moved (ap₂ (λ (p q : List ℕ). done (with′ (given p) (given q))) (x ∙ bytes-of _ _ as-address address-passed) (y ∙ bytes-of _ _ as-size size-passed) ∙ sym in-bytes)

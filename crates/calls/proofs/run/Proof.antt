@@ -1,14 +1,27 @@
 -- `calls::run` meets its contract: one law for each way that a call goes.
 use borrow.Author.Needs.{needs}
-use mathlib.Core.Path.{sym, _∙_, subst}
-use Rattle.calls.proofs.Running.{asks, turned-away, turned-by-events, carried-out}
-use Rattle.exchange.specs.Guarded.{guarded}
-use Rattle.exchange.specs.Meaning.{limitOf}
-use Rattle.exchange.specs.Places.{Answers}
+use mathlib.Core.Path.{sym, _∙_}
 use Rattle.requests.proofs.Callers.{stands}
-use Rattle.rules.specs.Exchange.{Asked}
+use Rattle.calls.specs.Meaning.{lentOf}
+use Rattle.calls.proofs.Running.{Given, hears, turned-away, turned-by-events, carried-out}
 use Rattle.calls.proofs.run.Statement.{statement}
 use Rattle.calls.proofs.run.Tie as tie
+
+abbrev given : tie.Start → Given
+given t =
+    let x = t .args in
+    record {
+      session = x .session;
+      ask = x .ask;
+      a = x .address .now;
+      s = x .size .now;
+      d = x .«data» .now;
+      lent = lentOf (x .request .now) (x .events .now) (x .replies .now);
+    }
+
+-- What was given, seen from behind refusals 1 to 9.
+abbrev behind : tie.Else1 → Given
+behind c = given (c .before .before .before .before .before .before .before .before)
 
 refusal-requires : tie.Need-refusal-requires
 refusal-requires c κs = search needs
@@ -18,8 +31,8 @@ refused-requires c κs = search needs
 
 returns : tie.Need-returns
 returns c =
-    let x = c .before .before .before .before .before .before .before .before .before .args in
-    rw (c .refused .ensures) (turned-away (x .session) (x .ask) (x .request .now) (x .address .now) (x .size .now) (x .«data» .now) (x .events .now) (x .replies .now) (c .before .before .refusal .ensures) (c .before .if1 .taken))
+    let tested = c .before .before in
+    rw (c .refused .ensures) (turned-away (given (tested .before .before .before .before .before .before .before)) (tested .refusal .ensures) (c .before .if1 .taken))
 
 service-id-requires : tie.Need-service-id-requires
 service-id-requires c κs = search needs
@@ -38,10 +51,14 @@ refused-requires-2 c κs = search needs
 
 returns-2 : tie.Need-returns-2
 returns-2 c =
-    let x = c .before .before .before .before .before .before .before .before .before .before .before .before .before .before .args in
-    let asked = asks (x .session) (x .ask) (x .request .now) (x .address .now) (x .size .now) (x .«data» .now) (x .events .now) (x .replies .now) (c .before .before .before .before .sub-function .result) (c .before .before .before .before .before .service-id .ensures) (c .before .before .before .before .sub-function .ensures) in
-    let heard = subst (λ (a : Asked). Answers (x .replies .now) (c .before .before .before .exchange .result) (guarded (x .ask .strict) a (limitOf (x .ask .timeout)) (x .events .now) (x .replies .now))) asked (c .before .before .before .exchange .ensures) in
-    rw (c .refused2 .ensures) (turned-by-events (x .session) (x .ask) (x .request .now) (x .address .now) (x .size .now) (x .«data» .now) (x .events .now) (x .replies .now) (c .before .before .before .before .before .before .before .refusal .ensures) (c .before .before .before .before .before .before .if1 .left) heard (sym (c .before .before .is-refused .ensures (x .replies .now)) ∙ c .before .if2 .taken))
+    let judged = c .before .before in
+    let exchanged = judged .before in
+    let sub = exchanged .before in
+    let sid = sub .before in
+    let passed = sid .before in
+    let g = behind passed in
+    let heard = hears g (sub .sub-function .result) (sid .service-id .ensures) (sub .sub-function .ensures) (exchanged .exchange .ensures) in
+    rw (c .refused2 .ensures) (turned-by-events g (passed .before .refusal .ensures) (passed .if1 .left) heard (sym (judged .is-refused .ensures (g .lent .replies)) ∙ c .before .if2 .taken))
 
 write-request-requires : tie.Need-write-request-requires
 write-request-requires c κs = search needs
@@ -54,11 +71,18 @@ same-length c = search needs
 
 returns-3 : tie.Need-returns-3
 returns-3 c =
-    let x = c .before .before .before .before .before .before .before .before .before .before .before .before .before .before .before .before .before .before .args in
-    let asked = asks (x .session) (x .ask) (x .request .now) (x .address .now) (x .size .now) (x .«data» .now) (x .events .now) (x .replies .now) (c .before .before .before .before .before .before .before .before .sub-function .result) (c .before .before .before .before .before .before .before .before .before .service-id .ensures) (c .before .before .before .before .before .before .before .before .sub-function .ensures) in
-    let heard = subst (λ (a : Asked). Answers (x .replies .now) (c .before .before .before .before .before .before .before .exchange .result) (guarded (x .ask .strict) a (limitOf (x .ask .timeout)) (x .events .now) (x .replies .now))) asked (c .before .before .before .before .before .before .before .exchange .ensures) in
-    let written = stands (c .before .before .before .write-request .ensures) (c .before .before .before .before .before .before .before .before .before .before .before .refusal .ensures) (c .before .before .before .before .before .before .before .before .before .before .if1 .left) .1 in
-    carried-out (x .session) (x .ask) (x .request .now) (x .address .now) (x .size .now) (x .«data» .now) (x .events .now) (x .replies .now) (c .before .before .before .before .before .before .before .before .before .before .before .refusal .ensures) (c .before .before .before .before .before .before .before .before .before .before .if1 .left) heard (sym (c .before .before .before .before .before .before .is-refused .ensures (x .replies .now)) ∙ c .before .before .before .before .before .if2 .left) written (c .concluded .ensures)
+    let wrote = c .before .before .before in
+    let kept = wrote .before .before in
+    let judged = kept .before in
+    let exchanged = judged .before in
+    let sub = exchanged .before in
+    let sid = sub .before in
+    let passed = sid .before in
+    let g = behind passed in
+    let told = passed .before .refusal .ensures in
+    let heard = hears g (sub .sub-function .result) (sid .service-id .ensures) (sub .sub-function .ensures) (exchanged .exchange .ensures) in
+    let written = stands (wrote .write-request .ensures) told (passed .if1 .left) .1 in
+    carried-out g told (passed .if1 .left) heard (sym (judged .is-refused .ensures (g .lent .replies)) ∙ kept .if2 .left) written (c .concluded .ensures)
 
 pub run-spec : {M : Type 1} → statement M
 run-spec =

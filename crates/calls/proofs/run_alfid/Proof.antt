@@ -1,13 +1,33 @@
 -- `calls::run_alfid` meets its contract: a width refuses, or the fields are bytes, or the call takes none.
 use borrow.Author.Needs.{needs}
 use borrow.Author.Tests.{not-true, not-false}
-use mathlib.Core.Path.{sym, ap, _∙_}
-use lib.ListN.{take, drop}
-use Rattle.wire.specs.declared.MemoryBytes.{MemoryBytes}
-use Rattle.calls.specs.Meaning.{lentOf}
-use Rattle.calls.proofs.Widths.{bytes-of, without, address-refused, size-refused, as-bytes}
+use mathlib.Core.Bool.{true}
+use mathlib.Core.Path.{_≡_, sym, _∙_}
+use Rattle.calls.specs.Meaning.{lentOf, takesMemory}
+use Rattle.calls.proofs.Widths.{Given, without, address-refused, size-refused, as-bytes}
 use Rattle.calls.proofs.run_alfid.Statement.{statement}
 use Rattle.calls.proofs.run_alfid.Tie as tie
+
+abbrev given : tie.Start → Given
+given t =
+    let x = t .args in
+    record {
+      session = x .session;
+      ask = x .ask;
+      v = x .address;
+      u = x .size;
+      w = x .address-width;
+      w′ = x .size-width;
+      d = x .«data» .now;
+      lent = lentOf (x .request .now) (x .events .now) (x .replies .now);
+    }
+
+-- What was given, seen from a call that takes both; and that it does.
+abbrev behind : tie.Else1 → Given
+behind c = given (c .before .before .before .before .before .before)
+
+takes : (c : tie.Else1) → takesMemory (behind c .ask .call) ≡ true
+takes c = sym (c .before .takes-memory .ensures) ∙ not-false _ (c .if1 .left)
 
 takes-memory-requires : tie.Need-takes-memory-requires
 takes-memory-requires c κs = search needs
@@ -26,8 +46,9 @@ same-length c = search needs
 
 returns : tie.Need-returns
 returns c =
-    let x = c .before .before .before .before .before .before .before .before .before .before .before .before .args in
-    without (x .session) (x .ask) (lentOf (x .request .now) (x .events .now) (x .replies .now)) (x .address) (x .size) (x .address-width) (x .size-width) (x .«data» .now) (sym (c .before .before .before .before .before .before .before .takes-memory .ensures) ∙ not-true _ (c .before .before .before .before .before .before .if1 .taken)) (c .before .before .run .ensures)
+    let neither = c .before .before .before .before .before .before in
+    let asked = neither .before in
+    without (given (asked .before .before .before .before .before)) (sym (asked .takes-memory .ensures) ∙ not-true _ (neither .if1 .taken)) (c .before .before .run .ensures)
 
 memory-bytes-requires : tie.Need-memory-bytes-requires
 memory-bytes-requires c κs = search needs
@@ -37,10 +58,9 @@ refused-requires c κs = search needs
 
 returns-2 : tie.Need-returns-2
 returns-2 c =
-    let x = c .before .before .before .before .before .before .before .before .before .args in
-    let takes = sym (c .before .before .before .before .takes-memory .ensures) ∙ not-false _ (c .before .before .before .if1 .left) in
-    let told = sym (ap (λ (y : MemoryBytes). y .refusal) (c .before .before .memory-bytes .ensures)) in
-    rw (c .refused .ensures) (address-refused (x .session) (x .ask) (lentOf (x .request .now) (x .events .now) (x .replies .now)) (x .address) (x .size) (x .address-width) (x .size-width) (x .«data» .now) takes told (c .before .if2 .taken))
+    let address = c .before .before in
+    let both = address .before in
+    rw (c .refused .ensures) (address-refused (behind both) (takes both) (address .memory-bytes .ensures) (c .before .if2 .taken))
 
 memory-bytes-requires-2 : tie.Need-memory-bytes-requires-2
 memory-bytes-requires-2 c κs = search needs
@@ -50,11 +70,10 @@ refused-requires-2 c κs = search needs
 
 returns-3 : tie.Need-returns-3
 returns-3 c =
-    let x = c .before .before .before .before .before .before .before .before .before .before .before .args in
-    let takes = sym (c .before .before .before .before .before .before .takes-memory .ensures) ∙ not-false _ (c .before .before .before .before .before .if1 .left) in
-    let passed = sym (ap (λ (y : MemoryBytes). y .refusal) (c .before .before .before .before .memory-bytes .ensures)) ∙ c .before .before .before .if2 .left in
-    let told = sym (ap (λ (y : MemoryBytes). y .refusal) (c .before .before .memory-bytes2 .ensures)) in
-    rw (c .refused2 .ensures) (size-refused (x .session) (x .ask) (lentOf (x .request .now) (x .events .now) (x .replies .now)) (x .address) (x .size) (x .address-width) (x .size-width) (x .«data» .now) takes passed told (c .before .if3 .taken))
+    let size = c .before .before in
+    let passed = size .before in
+    let both = passed .before .before in
+    rw (c .refused2 .ensures) (size-refused (behind both) (takes both) (passed .before .memory-bytes .ensures) (passed .if2 .left) (size .memory-bytes2 .ensures) (c .before .if3 .taken))
 
 slice-aggregate-part : tie.Need-slice-aggregate-part
 slice-aggregate-part c = search needs
@@ -76,15 +95,13 @@ same-length-2 c = search needs
 
 returns-4 : tie.Need-returns-4
 returns-4 c =
-    let x = c .before .before .before .before .before .before .before .before .before .before .before .before .before .before .before .before .before .before .before .before .args in
-    let a = c .before .before .before .before .before .before .before .before .before .before .before .before .before .memory-bytes in
-    let s = c .before .before .before .before .before .before .before .before .before .before .before .memory-bytes2 in
-    let takes = sym (c .before .before .before .before .before .before .before .before .before .before .before .before .before .before .before .takes-memory .ensures) ∙ not-false _ (c .before .before .before .before .before .before .before .before .before .before .before .before .before .before .if1 .left) in
-    let passed = sym (ap (λ (y : MemoryBytes). y .refusal) (a .ensures)) ∙ c .before .before .before .before .before .before .before .before .before .before .before .before .if2 .left in
-    let passed2 = sym (ap (λ (y : MemoryBytes). y .refusal) (s .ensures)) ∙ c .before .before .before .before .before .before .before .before .before .before .if3 .left in
-    let address = c .before .before .before .before .before .before .part .ensures ∙ ap (λ (y : MemoryBytes). take (y .len) (drop 0 (y .bytes))) (a .ensures) ∙ bytes-of (x .address) (x .address-width) passed in
-    let size = c .before .before .before .before .part2 .ensures ∙ ap (λ (y : MemoryBytes). take (y .len) (drop 0 (y .bytes))) (s .ensures) ∙ bytes-of (x .size) (x .size-width) passed2 in
-    as-bytes (x .session) (x .ask) (lentOf (x .request .now) (x .events .now) (x .replies .now)) (x .address) (x .size) (x .address-width) (x .size-width) (x .«data» .now) takes passed passed2 address size (c .before .before .run2 .ensures)
+    let second = c .before .before .before .before in
+    let first = second .before .before in
+    let size-passed = first .before .before .before .before in
+    let size = size-passed .before in
+    let passed = size .before in
+    let both = passed .before .before in
+    as-bytes (behind both) (takes both) (passed .before .memory-bytes .ensures) (passed .if2 .left) (size .memory-bytes2 .ensures) (size-passed .if3 .left) (first .part .ensures) (second .part2 .ensures) (c .before .before .run2 .ensures)
 
 pub run-alfid-spec : {M : Type 1} → statement M
 run-alfid-spec =
