@@ -1,13 +1,27 @@
 -- `exchange::checks::granting` meets its contract.
-use mathlib.Core.Option.{none}
-use mathlib.Core.Bool.{true, false}
-use mathlib.Core.Path.{sym, _∙_, ap, refl}
+use mathlib.Core.Option.{Option, none, some}
+use mathlib.Core.Bool.{Bool, true, false, cond, not}
+use mathlib.Core.Path.{_≡_, sym, _∙_, ap, refl}
 use borrow.Author.Tests.{not-true, not-false}
 use borrow.Author.Needs.{needs}
-use Rattle.exchange.specs.Meaning.{askedOf, verdictOf}
-use Rattle.exchange.proofs.Judging.{granted}
+use Rattle.rules.specs.Answers.{Fault, deviation}
+use Rattle.rules.specs.Checks.{inStrict}
+use Rattle.rules.specs.Exchange.{granting}
+use Rattle.exchange.specs.Meaning.{askedOf, verdictOf, firstOf}
+use Rattle.exchange.proofs.Judging.{decided, granted}
 use Rattle.exchange.proofs.checks.granting.Statement.{statement}
 use Rattle.exchange.proofs.checks.granting.Tie as tie
+
+-- Behind the test of the SID, the echo's checks and the suppression decide.
+decides : (c : tie.After-echoing) → let a = c .before .before .before .before .before .before .args in
+    (echo : Option Fault) (quiet : Bool) → verdictOf (c .echoing .result) ≡ echo → quiet ≡ inStrict (a .strict) (not (a .hush))
+    → decided some echo (cond quiet none (some (deviation 4))) ≡ firstOf (granting (a .strict) (askedOf (a .asked)) (a .hush) (a .reply .now))
+decides c echo quiet e q =
+    let test1 = c .before in
+    let read = test1 .before .before .before in
+    let a = read .before .before .args in
+    let sid = rw (read .byte-at .ensures) at (sym (test1 .before .in-strict .ensures) ∙ not-false _ (test1 .if1 .left)) in
+    granted (a .strict) (askedOf (a .asked)) (a .hush) (a .reply .now) echo quiet sid (sym e ∙ c .echoing .ensures) q
 
 byte-at-requires : tie.Need-byte-at-requires
 byte-at-requires c κs = search needs
@@ -32,30 +46,15 @@ in-strict-requires-2 c κs = search needs
 
 returns-2 : tie.Need-returns-2
 returns-2 c =
-    let a = c .before .before .before .before .before .before .before .before .before .before .args in
-    let sid = rw (c .before .before .before .before .before .before .before .before .byte-at .ensures) at
-    (sym (c .before .before .before .before .before .before .in-strict .ensures) ∙ not-false _
-    (c .before .before .before .before .before .if1 .left)) in
-    let echo = ap verdictOf (sym (c .before .before .enum-told .given .1)) ∙ (c .before .before .before .before .echoing .ensures) in
-    granted (a .strict) (askedOf (a .asked)) (a .hush) (a .reply .now) none false sid echo
+    decides (c .before .before .before .before) none false (ap verdictOf (c .before .before .enum-told .given .1))
     (sym (not-true _ (c .if2 .taken)) ∙ (c .before .in-strict2 .ensures))
 
 returns-3 : tie.Need-returns-3
-returns-3 c =
-    let a = c .before .before .before .before .before .before .before .before .before .args in
-    let sid = rw (c .before .before .before .before .before .before .before .byte-at .ensures) at
-    (sym (c .before .before .before .before .before .in-strict .ensures) ∙ not-false _ (c .before .before .before .before .if1 .left)) in
-    let echo = ap verdictOf (sym (c .before .fault .given .1)) ∙ (c .before .before .before .echoing .ensures) in
-    granted (a .strict) (askedOf (a .asked)) (a .hush) (a .reply .now) _ _ sid echo refl
+returns-3 c = decides (c .before .before .before) _ _ (ap verdictOf (c .before .fault .given .1)) refl
 
 returns-4 : tie.Need-returns-4
 returns-4 c =
-    let a = c .before .before .before .before .before .before .before .before .before .before .args in
-    let sid = rw (c .before .before .before .before .before .before .before .before .byte-at .ensures) at
-    (sym (c .before .before .before .before .before .before .in-strict .ensures) ∙ not-false _
-    (c .before .before .before .before .before .if1 .left)) in
-    let echo = ap verdictOf (sym (c .before .before .enum-told .given .1)) ∙ (c .before .before .before .before .echoing .ensures) in
-    granted (a .strict) (askedOf (a .asked)) (a .hush) (a .reply .now) none true sid echo
+    decides (c .before .before .before .before) none true (ap verdictOf (c .before .before .enum-told .given .1))
     (sym (not-false _ (c .if2 .left)) ∙ (c .before .in-strict2 .ensures))
 
 pub granting-spec : {M : Type 1} → statement M

@@ -1,6 +1,9 @@
 -- `exchange::checks::look` meets its contract.
+use Prim.Native.Nat.{_+_, _≤_}
 use native.Mathlib.Omega.{arith}
-use mathlib.Core.Path.{sym, ap, _∙_}
+use mathlib.Core.Logic.{_≢_}
+use mathlib.Core.Path.{_≡_, sym, ap, _∙_}
+use lib.ListN.{length, getD}
 use borrow.Author.Needs.{needs}
 use Rattle.exchange.proofs.Looking.{Read, looked-empty, looked-refused, looked-pending, looked-negative, looked-wrong, head-fits, looked-positive}
 use Rattle.exchange.specs.Meaning.{askedOf, verdictOf}
@@ -12,6 +15,23 @@ reply : (c : tie.After-part)
     → Read (c .before .before .args .strict) (askedOf (c .before .before .args .asked)) (c .before .before .args .hush)
     (c .before .before .args .replies .now) (c .before .before .args .place) (c .part .result .now)
 reply c = record { here = c .part .ensures }
+
+-- Its first byte: 7F, or another.
+is-negative : (c : tie.Then2) → getD (c .before .before .before .part .result .now) 0 0 ≡ 0x7f
+is-negative c = sym (c .before .byte-at .ensures) ∙ c .if2 .taken
+
+is-other : (c : tie.Else2) → getD (c .before .before .before .part .result .now) 0 0 ≢ 0x7f
+is-other c = rw (c .before .byte-at .ensures) at (c .if2 .left)
+
+-- A positive's data begins within the reply, and the reply lies in the lent bytes.
+fits : (c : tie.After-head) → let more = c .before .before .before .before .before .before in
+    (c .head .result ≤ length (more .before .part .result .now)) × (more .before .before .before .args .place .at + length (more .before .part .result .now) ≤ length (more .before .before .before .args .replies .now))
+fits c =
+    let granted = c .before .before .before in
+    let other = granted .before in
+    let more = other .before .before in
+    let passed = ap verdictOf (sym (c .before .enum-told2 .given .1)) ∙ granted .granting .ensures in
+    head-fits (reply (more .before)) (more .if1 .left) (is-other other) passed (c .head .ensures)
 
 part-requires : tie.Need-part-requires
 part-requires c κs = search needs
@@ -41,12 +61,12 @@ outcome-of-requires-2 c κs = search needs
 
 returns-2 : tie.Need-returns-2
 returns-2 c =
-    let failed = ap verdictOf (sym (c .before .before .fault .given .1)) ∙ (c .before .before .before .before .refusing .ensures) in
+    let fault = c .before .before .fault .given in
+    let refused = c .before .before .before .before in
+    let negative = refused .before in
+    let more = negative .before .before in
     rw (c .outcome-of2 .ensures)
-    (looked-refused (reply (c .before .before .before .before .before .before .before .before))
-    (c .before .before .before .before .before .before .before .if1 .left)
-    (sym (c .before .before .before .before .before .before .byte-at .ensures) ∙ (c .before .before .before .before .before .if2 .taken))
-    (c .before .before .fault .given .0 .0) failed)
+    (looked-refused (reply (more .before)) (more .if1 .left) (is-negative negative) (fault .0 .0) (ap verdictOf (sym (fault .1)) ∙ refused .refusing .ensures))
 
 enum-told : tie.Need-enum-told
 enum-told c = search needs
@@ -56,19 +76,19 @@ byte-at-requires-2 c κs = search needs
 
 returns-3 : tie.Need-returns-3
 returns-3 c =
-    let passed = ap verdictOf (sym (c .before .before .enum-told .given .1)) ∙ (c .before .before .before .before .refusing .ensures) in
-    looked-pending (reply (c .before .before .before .before .before .before .before .before))
-    (c .before .before .before .before .before .before .before .if1 .left)
-    (sym (c .before .before .before .before .before .before .byte-at .ensures) ∙ (c .before .before .before .before .before .if2 .taken)) passed
-    (sym (c .before .byte-at2 .ensures) ∙ (c .if3 .taken))
+    let refused = c .before .before .before .before in
+    let negative = refused .before in
+    let more = negative .before .before in
+    let passed = ap verdictOf (sym (c .before .before .enum-told .given .1)) ∙ refused .refusing .ensures in
+    looked-pending (reply (more .before)) (more .if1 .left) (is-negative negative) passed (sym (c .before .byte-at2 .ensures) ∙ c .if3 .taken)
 
 returns-4 : tie.Need-returns-4
 returns-4 c =
-    let passed = ap verdictOf (sym (c .before .before .enum-told .given .1)) ∙ (c .before .before .before .before .refusing .ensures) in
-    looked-negative (reply (c .before .before .before .before .before .before .before .before))
-    (c .before .before .before .before .before .before .before .if1 .left)
-    (sym (c .before .before .before .before .before .before .byte-at .ensures) ∙ (c .before .before .before .before .before .if2 .taken)) passed
-    (c .before .byte-at2 .ensures) (c .if3 .left)
+    let refused = c .before .before .before .before in
+    let negative = refused .before in
+    let more = negative .before .before in
+    let passed = ap verdictOf (sym (c .before .before .enum-told .given .1)) ∙ refused .refusing .ensures in
+    looked-negative (reply (more .before)) (more .if1 .left) (is-negative negative) passed (c .before .byte-at2 .ensures) (c .if3 .left)
 
 granting-requires : tie.Need-granting-requires
 granting-requires c κs = search needs
@@ -86,36 +106,27 @@ head-requires : tie.Need-head-requires
 head-requires c κs = search needs
 
 add-t27 : tie.Need-add-t27
-add-t27 c =
-    let passed = ap verdictOf (sym (c .before .enum-told2 .given .1)) ∙ (c .before .before .before .granting .ensures) in
-    omega (
-      arith,
-      head-fits (reply (c .before .before .before .before .before .before .before)) (c .before .before .before .before .before .before .if1 .left)
-          (rw (c .before .before .before .before .before .byte-at .ensures) at (c .before .before .before .before .if2 .left)) passed
-          (c .head .ensures),
-    )
+add-t27 c = omega (arith, fits c)
 
 sub-t29 : tie.Need-sub-t29
-sub-t29 c =
-    let passed = ap verdictOf (sym (c .before .enum-told2 .given .1)) ∙ (c .before .before .before .granting .ensures) in
-    head-fits (reply (c .before .before .before .before .before .before .before)) (c .before .before .before .before .before .before .if1 .left)
-    (rw (c .before .before .before .before .before .byte-at .ensures) at (c .before .before .before .before .if2 .left)) passed
-    (c .head .ensures) .0
+sub-t29 c = fits c .0
 
 returns-5 : tie.Need-returns-5
 returns-5 c =
-    let failed = ap verdictOf (sym (c .before .before .fault2 .given .1)) ∙ (c .before .before .before .before .granting .ensures) in
+    let fault = c .before .before .fault2 .given in
+    let granted = c .before .before .before .before in
+    let other = granted .before in
+    let more = other .before .before in
     rw (c .outcome-of3 .ensures)
-    (looked-wrong (reply (c .before .before .before .before .before .before .before .before))
-    (c .before .before .before .before .before .before .before .if1 .left)
-    (rw (c .before .before .before .before .before .before .byte-at .ensures) at (c .before .before .before .before .before .if2 .left))
-    (c .before .before .fault2 .given .0 .0) failed)
+    (looked-wrong (reply (more .before)) (more .if1 .left) (is-other other) (fault .0 .0) (ap verdictOf (sym (fault .1)) ∙ granted .granting .ensures))
 
 returns-6 : tie.Need-returns-6
 returns-6 c =
-    let passed = ap verdictOf (sym (c .before .enum-told2 .given .1)) ∙ (c .before .before .before .granting .ensures) in
-    looked-positive (reply (c .before .before .before .before .before .before .before)) (c .before .before .before .before .before .before .if1 .left)
-    (rw (c .before .before .before .before .before .byte-at .ensures) at (c .before .before .before .before .if2 .left)) passed (c .head .ensures)
+    let granted = c .before .before .before in
+    let other = granted .before in
+    let more = other .before .before in
+    let passed = ap verdictOf (sym (c .before .enum-told2 .given .1)) ∙ granted .granting .ensures in
+    looked-positive (reply (more .before)) (more .if1 .left) (is-other other) passed (c .head .ensures)
 
 pub look-spec : {M : Type 1} → statement M
 look-spec =

@@ -35,28 +35,42 @@ event-at-requires c κs = search needs
 
 returns-3 : tie.Need-returns-3 Inv-loop μ-loop
 returns-3 c =
-    let a = c .before .before .before .before .before .before .before .before .before .args in
-    let l = c .before .before .before .before .loop in
+    let tested = c .before .before .before in
+    let head = tested .before in
+    let test2 = head .before in
+    let test1 = test2 .before in
+    let start = test1 .before .before .before in
+    let a = start .args in
+    let l = head .loop in
     let left = limits-fall (a .replies .now) (a .events .now) (length (a .events .now) / 10) (l .i) (l .last)
-    (entryOf (c .before .before .event-at .result)) (c .before .before .event-at .ensures) (c .before .before .before .loop-test .taken)
+    (entryOf (c .before .before .event-at .result)) (c .before .before .event-at .ensures) (tested .loop-test .taken)
     (c .if3 .taken) in
-    within (a .events .now) (a .replies .now) (c .before .before .before .before .before .before .if1 .left)
-    (c .before .before .before .before .before .if2 .left) false (sym left ∙ l .inv .1)
+    within (a .events .now) (a .replies .now) (test1 .if1 .left)
+    (test2 .if2 .left) false (sym left ∙ l .inv .1)
 
 sound-requires : tie.Need-sound-requires Inv-loop μ-loop
-sound-requires c κs = are-bytes (c .before .before .before .before .before .before .before .before .before .args .replies .now)
-    (λ i. omega (arith, (c .before .before .before .before .before .before .before .shared-slice-known2 .given) i))
+sound-requires c κs =
+    let at-replies = c .before .before .before .before .before .before .before in
+    let start = at-replies .before .before in
+    are-bytes (start .args .replies .now)
+    (λ i. omega (arith, (at-replies .shared-slice-known2 .given) i))
 
 returns-4 : tie.Need-returns-4 Inv-loop μ-loop
 returns-4 c =
-    let a = c .before .before .before .before .before .before .before .before .before .before .before .args in
-    let l = c .before .before .before .before .before .before .loop in
+    let at-event-at = c .before .before .before .before in
+    let tested = at-event-at .before in
+    let head = tested .before in
+    let test2 = head .before in
+    let test1 = test2 .before in
+    let start = test1 .before .before .before in
+    let a = start .args in
+    let l = head .loop in
     let left = limits-go (a .replies .now) (a .events .now) (length (a .events .now) / 10) (l .i) (l .last)
-    (entryOf (c .before .before .before .before .event-at .result)) (c .before .before .before .before .event-at .ensures)
-    (c .before .before .before .before .before .loop-test .taken) false (sym (not-true _ (c .if4 .taken)) ∙ (c .before .sound .ensures))
+    (entryOf (at-event-at .event-at .result)) (at-event-at .event-at .ensures)
+    (tested .loop-test .taken) false (sym (not-true _ (c .if4 .taken)) ∙ (c .before .sound .ensures))
     (c .before .before .if3 .left) in
-    within (a .events .now) (a .replies .now) (c .before .before .before .before .before .before .before .before .if1 .left)
-    (c .before .before .before .before .before .before .before .if2 .left) false (sym left ∙ l .inv .1)
+    within (a .events .now) (a .replies .now) (test1 .if1 .left)
+    (test2 .if2 .left) false (sym left ∙ l .inv .1)
 
 add-i : tie.Need-add-i Inv-loop μ-loop
 add-i c = omega arith
@@ -66,19 +80,25 @@ loop-less c = omega arith
 
 loop-again : tie.Need-loop-again Inv-loop μ-loop
 loop-again c =
-    let a = c .before .before .before .before .before .before .before .before .before .before .before .args in
-    let l = c .before .before .before .before .before .before .loop in
+    let at-event-at = c .before .before .before .before in
+    let tested = at-event-at .before in
+    let head = tested .before in
+    let start = head .before .before .before .before .before in
+    let a = start .args in
+    let l = head .loop in
     let left = limits-go (a .replies .now) (a .events .now) (length (a .events .now) / 10) (l .i) (l .last)
-    (entryOf (c .before .before .before .before .event-at .result)) (c .before .before .before .before .event-at .ensures)
-    (c .before .before .before .before .before .loop-test .taken) true (sym (not-false _ (c .if4 .left)) ∙ (c .before .sound .ensures))
+    (entryOf (at-event-at .event-at .result)) (at-event-at .event-at .ensures)
+    (tested .loop-test .taken) true (sym (not-false _ (c .if4 .left)) ∙ (c .before .sound .ensures))
     (c .before .before .if3 .left) in
     (omega arith, sym left ∙ l .inv .1)
 
 returns-5 : tie.Need-returns-5 Inv-loop μ-loop
 returns-5 c =
-    let a = c .before .before .before .before .before .before .args in
+    let test1 = c .before .before .before in
+    let start = test1 .before .before .before in
+    let a = start .args in
     let l = c .before .loop in
-    within (a .events .now) (a .replies .now) (c .before .before .before .if1 .left) (c .before .before .if2 .left) true
+    within (a .events .now) (a .replies .now) (test1 .if1 .left) (c .before .before .if2 .left) true
     (rw (no-entry (a .events .now) (length (a .events .now) / 10) (l .i) (c .loop-test .left)) at (l .inv .1))
 
 pub within-limits-spec : {M : Type 1} → statement M
