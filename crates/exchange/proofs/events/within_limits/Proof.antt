@@ -1,9 +1,9 @@
 -- `exchange::events::within_limits` meets its contract.
-use Prim.Native.Nat.{_-_, _/_, _≤_}
+use Prim.Native.Nat.{_+_, _-_, _/_, _≤_}
 use native.Mathlib.Omega.{arith}
 use native.Mathlib.Nat.{sub-zero}
 use mathlib.Core.Path.{_≡_, sym, _∙_}
-use mathlib.Core.Bool.{true, false}
+use mathlib.Core.Bool.{Bool, true, false, _&&_}
 use borrow.Author.Needs.{needs}
 use borrow.Author.Tests.{lt-leb, eq-eqb, ne-eqb, not-true, not-false}
 use lib.ListN.{length}
@@ -18,6 +18,28 @@ Inv-loop events replies n last₀ i₀ last i = (i ≤ n) × (limits replies las
 
 abbrev μ-loop : tie.MeasureT-loop
 μ-loop events replies n last₀ i₀ last i = n - i
+
+abbrev start : tie.Else2 Inv-loop μ-loop → tie.Start Inv-loop μ-loop
+start c = c .before .before .before .before
+
+-- Of a list with the right length, the times and the events decide.
+decided : (c : tie.Else2 Inv-loop μ-loop) → let a = start c .args in
+    (b : Bool) → b ≡ limits (a .replies .now) 0 (entries (a .events .now)) → b ≡ withinLimits (a .events .now) (a .replies .now)
+decided c = let a = start c .args in within (a .events .now) (a .replies .now) (c .before .if1 .left) (c .if2 .left)
+
+-- An event whose time does not fall passes the question on to those behind it if it is sound.
+goes : (c : tie.After-sound Inv-loop μ-loop) → let event = c .before .before .before in
+    let l = event .before .before .loop in
+    let a = start (event .before .before .before) .args in
+    (s : Bool) → s ≡ c .sound .result
+    → (s && limits (a .replies .now) (entryOf (event .event-at .result) .time) (entriesFrom (a .events .now) (length (a .events .now) / 10 - (l .i + 1)) (l .i + 1))) ≡ limits (a .replies .now) 0 (entries (a .events .now))
+goes c s e =
+    let event = c .before .before .before in
+    let more = event .before in
+    let l = more .before .loop in
+    let a = start (more .before .before) .args in
+    sym (limits-go (a .replies .now) (a .events .now) (length (a .events .now) / 10) (l .i) (l .last) (entryOf (event .event-at .result)) (event .event-at .ensures)
+    (more .loop-test .taken) s (e ∙ c .sound .ensures) (c .before .if3 .left)) ∙ l .inv .1
 
 returns : tie.Need-returns Inv-loop μ-loop
 unfolding withinLimits
@@ -35,42 +57,22 @@ event-at-requires c κs = search needs
 
 returns-3 : tie.Need-returns-3 Inv-loop μ-loop
 returns-3 c =
-    let tested = c .before .before .before in
-    let head = tested .before in
-    let test2 = head .before in
-    let test1 = test2 .before in
-    let start = test1 .before .before .before in
-    let a = start .args in
-    let l = head .loop in
-    let left = limits-fall (a .replies .now) (a .events .now) (length (a .events .now) / 10) (l .i) (l .last)
-    (entryOf (c .before .before .event-at .result)) (c .before .before .event-at .ensures) (tested .loop-test .taken)
-    (c .if3 .taken) in
-    within (a .events .now) (a .replies .now) (test1 .if1 .left)
-    (test2 .if2 .left) false (sym left ∙ l .inv .1)
+    let event = c .before .before in
+    let more = event .before in
+    let l = more .before .loop in
+    let a = start (more .before .before) .args in
+    let falls = limits-fall (a .replies .now) (a .events .now) (length (a .events .now) / 10) (l .i) (l .last)
+    (entryOf (event .event-at .result)) (event .event-at .ensures) (more .loop-test .taken) (c .if3 .taken) in
+    decided (more .before .before) false (sym falls ∙ l .inv .1)
 
 sound-requires : tie.Need-sound-requires Inv-loop μ-loop
 sound-requires c κs =
-    let at-replies = c .before .before .before .before .before .before .before in
-    let start = at-replies .before .before in
-    are-bytes (start .args .replies .now)
-    (λ i. omega (arith, (at-replies .shared-slice-known2 .given) i))
+    let begun = c .before .before .before .before .before in
+    are-bytes (start begun .args .replies .now) (λ i. omega (arith, (begun .before .before .shared-slice-known2 .given) i))
 
 returns-4 : tie.Need-returns-4 Inv-loop μ-loop
-returns-4 c =
-    let at-event-at = c .before .before .before .before in
-    let tested = at-event-at .before in
-    let head = tested .before in
-    let test2 = head .before in
-    let test1 = test2 .before in
-    let start = test1 .before .before .before in
-    let a = start .args in
-    let l = head .loop in
-    let left = limits-go (a .replies .now) (a .events .now) (length (a .events .now) / 10) (l .i) (l .last)
-    (entryOf (at-event-at .event-at .result)) (at-event-at .event-at .ensures)
-    (tested .loop-test .taken) false (sym (not-true _ (c .if4 .taken)) ∙ (c .before .sound .ensures))
-    (c .before .before .if3 .left) in
-    within (a .events .now) (a .replies .now) (test1 .if1 .left)
-    (test2 .if2 .left) false (sym left ∙ l .inv .1)
+returns-4 c = decided (c .before .before .before .before .before .before .before) false
+    (goes (c .before) false (sym (not-true _ (c .if4 .taken))))
 
 add-i : tie.Need-add-i Inv-loop μ-loop
 add-i c = omega arith
@@ -79,26 +81,13 @@ loop-less : tie.Need-loop-less Inv-loop μ-loop
 loop-less c = omega arith
 
 loop-again : tie.Need-loop-again Inv-loop μ-loop
-loop-again c =
-    let at-event-at = c .before .before .before .before in
-    let tested = at-event-at .before in
-    let head = tested .before in
-    let start = head .before .before .before .before .before in
-    let a = start .args in
-    let l = head .loop in
-    let left = limits-go (a .replies .now) (a .events .now) (length (a .events .now) / 10) (l .i) (l .last)
-    (entryOf (at-event-at .event-at .result)) (at-event-at .event-at .ensures)
-    (tested .loop-test .taken) true (sym (not-false _ (c .if4 .left)) ∙ (c .before .sound .ensures))
-    (c .before .before .if3 .left) in
-    (omega arith, sym left ∙ l .inv .1)
+loop-again c = (omega arith, goes (c .before) true (sym (not-false _ (c .if4 .left))))
 
 returns-5 : tie.Need-returns-5 Inv-loop μ-loop
 returns-5 c =
-    let test1 = c .before .before .before in
-    let start = test1 .before .before .before in
-    let a = start .args in
     let l = c .before .loop in
-    within (a .events .now) (a .replies .now) (test1 .if1 .left) (c .before .before .if2 .left) true
+    let a = start (c .before .before) .args in
+    decided (c .before .before) true
     (rw (no-entry (a .events .now) (length (a .events .now) / 10) (l .i) (c .loop-test .left)) at (l .inv .1))
 
 pub within-limits-spec : {M : Type 1} → statement M
