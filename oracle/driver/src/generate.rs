@@ -84,7 +84,7 @@ pub const GENERATORS: [Generator; 17] = [
     },
 ];
 
-/// The long run: every reply of three bytes to every call, about 1.3 thousand million cases, in two halves.
+/// The long run: every reply of three bytes to every call, 1,275,068,416 cases, in two halves.
 pub const EVERY_THREE_BYTES: [Generator; 2] = [
     Generator {
         name: "every reply of three bytes, strict",
