@@ -5,18 +5,22 @@ use Rattle.requests.proofs.Requests.{refused-arguments, Pieces, by-size
 use Rattle.requests.proofs.refusal.Statement.{statement}
 use Rattle.requests.proofs.refusal.Tie as tie
 
+abbrev start : tie.After-when3 → tie.Start
+start c = c .before .before .before .before .before .before .before .before .before .before .before
+
 -- What `arguments`, `opening` and `when` gave.
-pieces : (c : tie.After-when3)
-    → let a = c .before .before .before .before .before .before .before .before .before .before .before .args in
+pieces : (c : tie.After-when3) → let a = start c .args in
     Pieces (a .call) (a .address .now) (a .size .now) (a .present) (a .«data» .now) (a .quiet) (c .before .before .before .opening .result) (c .before .before .when .result .now) (c .before .when2 .result .now) (c .when3 .result .now)
 pieces c =
-    let n = c .before .before .before .before .before .numbers .given in
+    let opened = c .before .before .before in
+    let matched = opened .before .before in
+    let n = matched .numbers .given in
     record {
       numbers = n .0 .0;
       memory = n .0 .1 .0;
       with-data = n .0 .1 .1 .0;
-      parameters = sym (n .1) ∙ c .before .before .before .before .before .before .before .arguments .ensures _;
-      is-head = c .before .before .before .opening .ensures;
+      parameters = sym (n .1) ∙ matched .before .before .arguments .ensures _;
+      is-head = opened .opening .ensures;
       is-address = c .before .before .when .ensures;
       is-size = c .before .when2 .ensures;
       is-data = c .when3 .ensures;
@@ -53,7 +57,7 @@ returns c =
     refused-arguments (a .call) (a .address .now) (a .size .now) (a .present) (a .«data» .now) (a .quiet) (a .room) told .0
 
 returns-2 : tie.Need-returns-2
-returns-2 c = by-size (pieces (c .before)) (c .before .before .before .before .before .before .before .before .before .before .before .before .args .room) (c .size-refusal .ensures)
+returns-2 c = by-size (pieces (c .before)) (start (c .before) .args .room) (c .size-refusal .ensures)
 
 pub refusal-spec : {M : Type 1} → statement M
 refusal-spec =

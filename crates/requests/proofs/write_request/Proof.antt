@@ -7,18 +7,22 @@ use Rattle.requests.proofs.Requests.{refused-arguments, unwritten, Piec
 use Rattle.requests.proofs.write_request.Statement.{statement}
 use Rattle.requests.proofs.write_request.Tie as tie
 
+abbrev start : tie.After-when3 → tie.Start
+start c = c .before .before .before .before .before .before .before .before .before .before .before .before .before
+
 -- What `arguments`, `opening` and `when` gave.
-pieces : (c : tie.After-when3)
-    → let a = c .before .before .before .before .before .before .before .before .before .before .before .before .before .args in
+pieces : (c : tie.After-when3) → let a = start c .args in
     Pieces (a .call) (a .address .now) (a .size .now) (a .present) (a .«data» .now) (a .quiet) (c .before .before .before .before .opening .result) (c .before .before .when .result .now) (c .before .when2 .result .now) (c .when3 .result .now)
 pieces c =
-    let n = c .before .before .before .before .before .before .numbers .given in
+    let opened = c .before .before .before .before in
+    let matched = opened .before .before in
+    let n = matched .numbers .given in
     record {
       numbers = n .0 .0;
       memory = n .0 .1 .0;
       with-data = n .0 .1 .1 .0;
-      parameters = sym (n .1) ∙ c .before .before .before .before .before .before .before .before .arguments .ensures _;
-      is-head = c .before .before .before .before .opening .ensures;
+      parameters = sym (n .1) ∙ matched .before .before .arguments .ensures _;
+      is-head = opened .opening .ensures;
       is-address = c .before .before .when .ensures;
       is-size = c .before .when2 .ensures;
       is-data = c .when3 .ensures;
@@ -50,9 +54,10 @@ size-refusal-requires c κs = search needs
 
 returns : tie.Need-returns
 returns c =
-    let a = c .before .before .before .before .before .before .before .before .before .before .before .before .before .before .before .args in
+    let whole = c .before .before in
+    let a = start whole .args in
     let before = a .buffer .now in
-    let refused = by-size (pieces (c .before .before)) (length before) (c .before .size-refusal .ensures) in
+    let refused = by-size (pieces whole) (length before) (c .before .size-refusal .ensures) in
     unwritten (a .call) (a .address .now) (a .size .now) (a .present) (a .«data» .now) (a .quiet) before refused (ne-eqb _ _ (c .if1 .taken))
 
 slice-aggregate-part : tie.Need-slice-aggregate-part
@@ -66,9 +71,9 @@ part-requires c κs = search needs
 
 join-requires : tie.Need-join-requires
 join-requires c κs =
-    let x = pieces (c .before .before .before .before .before) in
-    let before = c .before .before .before .before .before .before .before .before .before .before .before .before .before .before .before .before .before .before .args .buffer .now in
-    fitting x (c .part .ensures) (length before) (c .before .before .before .before .size-refusal .ensures) (c .before .before .before .if1 .left)
+    let sized = c .before .before .before .before in
+    let whole = sized .before in
+    fitting (pieces whole) (c .part .ensures) (length (start whole .args .buffer .now)) (sized .size-refusal .ensures) (c .before .before .before .if1 .left)
 
 returns-2 : tie.Need-returns-2
 returns-2 c =
@@ -83,10 +88,14 @@ same-length c = search needs
 
 returns-3 : tie.Need-returns-3
 returns-3 c =
-    let x = pieces (c .before .before .before .before .before .before .before .before) in
-    let before = c .before .before .before .before .before .before .before .before .before .before .before .before .before .before .before .before .before .before .before .before .before .args .buffer .now in
-    let told = by-size x (length before) (c .before .before .before .before .before .before .before .size-refusal .ensures) in
-    written x (c .before .before .before .part .ensures) before told (c .before .before .before .before .before .before .if1 .left) (c .before .before .join .ensures)
+    let cut = c .before .before .before in
+    let passed = cut .before .before .before in
+    let sized = passed .before in
+    let whole = sized .before in
+    let x = pieces whole in
+    let before = start whole .args .buffer .now in
+    let told = by-size x (length before) (sized .size-refusal .ensures) in
+    written x (cut .part .ensures) before told (passed .if1 .left) (c .before .before .join .ensures)
 
 pub write-request-spec : {M : Type 1} → statement M
 write-request-spec =

@@ -12,6 +12,13 @@ use Rattle.rules.specs.Checks.{inStrict}
 use Rattle.checks.proofs.services.write_memory_by_address.Statement.{statement}
 use Rattle.checks.proofs.services.write_memory_by_address.Tie as tie
 
+-- Where the check before passed.
+abbrev length-passed : tie.Else2 → tie.Else1
+length-passed c = c .before .before .before .before
+
+abbrev format-passed : tie.Else3 → tie.Else2
+format-passed c = c .before .before .before .before
+
 -- What the checks that have passed tell, each in the definition's words.
 length-right : (c : tie.Else1) → let x = c .before .before .before .before .before .before .args in exactly (x .strict)
     (2 + length (x .address .now) + length (x .size .now)) (x .reply .now) .test ≡ true
@@ -88,13 +95,15 @@ in-strict-requires-3 : tie.Need-in-strict-requires-3
 in-strict-requires-3 c κs = search needs
 
 returns-3 : tie.Need-returns-3
-returns-3 c = rw (
-  length-right (c .before .before .before .before .before .before .before .before),
-  format-right (c .before .before .before .before),
-  ← (c .before .before .before .part .ensures),
-  ← (c .before .before .same .ensures),
-  sym (c .before .in-strict3 .ensures) ∙ not-true _ (c .if3 .taken),
-)
+returns-3 c =
+    let formatted = c .before .before .before .before in
+    rw (
+      length-right (length-passed formatted),
+      format-right formatted,
+      ← (c .before .before .before .part .ensures),
+      ← (c .before .before .same .ensures),
+      sym (c .before .in-strict3 .ensures) ∙ not-true _ (c .if3 .taken),
+    )
 
 rest-requires : tie.Need-rest-requires
 rest-requires c κs = search needs
@@ -109,28 +118,32 @@ in-strict-requires-4 : tie.Need-in-strict-requires-4
 in-strict-requires-4 c κs = search needs
 
 returns-4 : tie.Need-returns-4
-returns-4 c = rw (
-  length-right
-      (c .before .before .before .before .before .before .before .before .before .before .before .before .before),
-  format-right (c .before .before .before .before .before .before .before .before .before),
-  address-right (c .before .before .before .before .before),
-  ← (c .before .before .before .before .rest .ensures),
-  ← (c .before .before .before .rest2 .ensures),
-  ← (c .before .before .same2 .ensures),
-  sym (c .before .in-strict4 .ensures) ∙ not-true _ (c .if4 .taken),
-)
+returns-4 c =
+    let addressed = c .before .before .before .before .before in
+    let formatted = format-passed addressed in
+    rw (
+      length-right (length-passed formatted),
+      format-right formatted,
+      address-right addressed,
+      ← (c .before .before .before .before .rest .ensures),
+      ← (c .before .before .before .rest2 .ensures),
+      ← (c .before .before .same2 .ensures),
+      sym (c .before .in-strict4 .ensures) ∙ not-true _ (c .if4 .taken),
+    )
 
 returns-5 : tie.Need-returns-5
-returns-5 c = rw (
-  length-right
-      (c .before .before .before .before .before .before .before .before .before .before .before .before .before),
-  format-right (c .before .before .before .before .before .before .before .before .before),
-  address-right (c .before .before .before .before .before),
-  ← (c .before .before .before .before .rest .ensures),
-  ← (c .before .before .before .rest2 .ensures),
-  ← (c .before .before .same2 .ensures),
-  sym (c .before .in-strict4 .ensures) ∙ not-false _ (c .if4 .left),
-)
+returns-5 c =
+    let addressed = c .before .before .before .before .before in
+    let formatted = format-passed addressed in
+    rw (
+      length-right (length-passed formatted),
+      format-right formatted,
+      address-right addressed,
+      ← (c .before .before .before .before .rest .ensures),
+      ← (c .before .before .before .rest2 .ensures),
+      ← (c .before .before .same2 .ensures),
+      sym (c .before .in-strict4 .ensures) ∙ not-false _ (c .if4 .left),
+    )
 
 pub write-memory-by-address-spec : {M : Type 1} → statement M
 write-memory-by-address-spec =
