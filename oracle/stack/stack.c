@@ -2,7 +2,8 @@
  * big-endian) whose numbers ask a call, and for the alfid forms of calls 5, 6, 11 and 12.
  *
  * A call runs on a stack of its own that was painted before; what it left unpainted is counted, once for each of two paints. What an
- * empty function takes in its place is subtracted. */
+ * empty function takes in its place is subtracted. To be linked statically: a dynamic linker looks up the library's functions of C in the
+ * first call that needs them, on that call's stack. */
 #include <stdint.h>
 #include <stdio.h>
 #include <stdlib.h>
