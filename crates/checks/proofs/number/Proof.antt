@@ -37,22 +37,25 @@ enum-told c = search needs
 
 returns-3 : tie.Need-returns-3
 returns-3 c = λ a s present d.
-    let x = (c .before .before .before .before .before .before .before .before .before .args) in
-    number-fits (callOf (x .call) a s present d) (outcomeOf (x .replies .now) (x .outcome)) _
-    ((c .before .before .before .before .before .before .before .numbered .ensures) a s present d) _
-    (c .before .before .before .before .«data» .ensures)
-    (c .before .before .before .before .before .before .if1 .left)
-    (c .before .before .before .before .before .if2 .left) _
-    (sym (c .before .before .before .block-length .ensures) ∙ (c .before .v .given .1)) (omega arith)
+    let measured = c .before .before .before in
+    let cut = measured .before in
+    let test2 = cut .before in
+    let test1 = test2 .before in
+    let asked = test1 .before in
+    let x = asked .before .before .args in
+    number-fits (callOf (x .call) a s present d) (outcomeOf (x .replies .now) (x .outcome)) _ (asked .numbered .ensures a s present d) _
+    (cut .«data» .ensures) (test1 .if1 .left) (test2 .if2 .left) _ (sym (measured .block-length .ensures) ∙ c .before .v .given .1) (omega arith)
 
 returns-4 : tie.Need-returns-4
 returns-4 c = λ a s present d.
-    let x = (c .before .before .before .before .before .before .before .before .args) in
-    number-over (callOf (x .call) a s present d) (outcomeOf (x .replies .now) (x .outcome)) _
-    ((c .before .before .before .before .before .before .numbered .ensures) a s present d) _
-    (c .before .before .before .«data» .ensures) (c .before .before .before .before .before .if1 .left)
-    (c .before .before .before .before .if2 .left)
-    (sym (c .before .before .block-length .ensures) ∙ (c .enum-told .given .1))
+    let measured = c .before .before in
+    let cut = measured .before in
+    let test2 = cut .before in
+    let test1 = test2 .before in
+    let asked = test1 .before in
+    let x = asked .before .before .args in
+    number-over (callOf (x .call) a s present d) (outcomeOf (x .replies .now) (x .outcome)) _ (asked .numbered .ensures a s present d) _
+    (cut .«data» .ensures) (test1 .if1 .left) (test2 .if2 .left) (sym (measured .block-length .ensures) ∙ c .enum-told .given .1)
 
 pub number-spec : {M : Type 1} → statement M
 number-spec =

@@ -28,11 +28,14 @@ data-requires c κs = search needs
 
 returns-3 : tie.Need-returns-3
 returns-3 c = λ a s present d.
-    let x = (c .before .before .before .before .before .before .args) in
+    let cut = c .before in
+    let test2 = cut .before in
+    let test1 = test2 .before in
+    let asked = test1 .before in
+    let x = asked .before .before .args in
     let set = timing-set (callOf (x .call) a s present d) (outcomeOf (x .replies .now) (x .outcome)) _
-    ((c .before .before .before .before .numbered .ensures) a s present d) _ (c .before .«data» .ensures)
-    (c .before .before .before .if1 .left) (x .p2) (x .star) in
-    rw (not-false (x .server-timing) (c .before .before .if2 .left), ← set, ne-eqb _ 4 (c .if3 .taken))
+    (asked .numbered .ensures a s present d) _ (cut .«data» .ensures) (test1 .if1 .left) (x .p2) (x .star) in
+    rw (not-false (x .server-timing) (test2 .if2 .left), ← set, ne-eqb _ 4 (c .if3 .taken))
 
 u16-at-requires : tie.Need-u16-at-requires
 u16-at-requires c κs = search needs
@@ -51,15 +54,18 @@ mul-t15 c = search needs
 
 returns-4 : tie.Need-returns-4
 returns-4 c = λ a s present d.
-    let x = (c .before .before .before .before .before .before .before .before .before .before .args) in
+    let four = c .before .before .before .before in
+    let cut = four .before in
+    let test2 = cut .before in
+    let test1 = test2 .before in
+    let asked = test1 .before in
+    let x = asked .before .before .args in
     let set = timing-set (callOf (x .call) a s present d) (outcomeOf (x .replies .now) (x .outcome)) _
-    ((c .before .before .before .before .before .before .before .before .numbered .ensures) a s present d) _
-    (c .before .before .before .before .before .«data» .ensures)
-    (c .before .before .before .before .before .before .before .if1 .left) (x .p2) (x .star) in
+    (asked .numbered .ensures a s present d) _ (cut .«data» .ensures) (test1 .if1 .left) (x .p2) (x .star) in
     rw (
-      not-false (x .server-timing) (c .before .before .before .before .before .before .if2 .left),
+      not-false (x .server-timing) (test2 .if2 .left),
       ← set,
-      eq-eqb _ 4 (c .before .before .before .before .if3 .left),
+      eq-eqb _ 4 (four .if3 .left),
       (c .before .before .wide32 .ensures .0),
       (c .wide322 .ensures .0),
       (c .before .before .before .u16-at .ensures),

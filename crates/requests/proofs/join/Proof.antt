@@ -27,12 +27,14 @@ same-length c = search needs
 
 returns : tie.Need-returns
 returns c =
-    let s = c .before .before .before .before .before .before .before .before .before .before .before .before .before .before .before .before .before .before .before .before .before in
-    let a = s .args in
-    let first = c .before .before .before .before .before .before .before .before .before .before .before .before .before .before .copy-into .ensures .buffer in
-    let second = c .before .before .before .before .before .before .before .before .before .before .copy-into2 .ensures .buffer in
-    let third = c .before .before .before .before .before .before .copy-into3 .ensures .buffer in
-    joined (a .buffer .now) (a .head .now) (a .address .now) (a .size .now) (a .«data» .now) (s .pre) first second third (c .before .before .copy-into4 .ensures .buffer)
+    let fourth = c .before .before in
+    let third = fourth .before .before .before .before in
+    let second = third .before .before .before .before in
+    let first = second .before .before .before .before in
+    let start = first .before .before .before .before .before .before .before in
+    let a = start .args in
+    joined (a .buffer .now) (a .head .now) (a .address .now) (a .size .now) (a .«data» .now) (start .pre) (first .copy-into .ensures .buffer)
+    (second .copy-into2 .ensures .buffer) (third .copy-into3 .ensures .buffer) (fourth .copy-into4 .ensures .buffer)
 
 pub join-spec : {M : Type 1} → statement M
 join-spec =

@@ -21,21 +21,26 @@ in-strict-requires : tie.Need-in-strict-requires
 in-strict-requires c κs = search needs
 
 returns : tie.Need-returns
-returns c = over (c .before .before .before .before .args .strict)
-    (value ((c .before .before .before .before .args .bytes .now)))
-    (sym (c .before .before .block-length .ensures) ∙ (c .enum-told .given .1))
+returns c =
+    let measured = c .before .before in
+    let x = measured .before .before .args in
+    over (x .strict) (value (x .bytes .now)) (sym (measured .block-length .ensures) ∙ c .enum-told .given .1)
 
 returns-2 : tie.Need-returns-2
-returns-2 c = under (c .before .before .before .before .before .before .before .args .strict)
-    (value ((c .before .before .before .before .before .before .before .args .bytes .now))) _ true
-    (sym (c .before .before .before .before .before .block-length .ensures) ∙ (c .before .before .before .v .given .1))
-    (omega arith) (sym (c .before .in-strict .ensures) ∙ (c .if1 .taken))
+returns-2 c =
+    let fits = c .before .before .before in
+    let measured = fits .before .before in
+    let x = measured .before .before .args in
+    under (x .strict) (value (x .bytes .now)) _ true (sym (measured .block-length .ensures) ∙ fits .v .given .1) (omega arith)
+    (sym (c .before .in-strict .ensures) ∙ c .if1 .taken)
 
 returns-3 : tie.Need-returns-3
-returns-3 c = under (c .before .before .before .before .before .before .before .args .strict)
-    (value ((c .before .before .before .before .before .before .before .args .bytes .now))) _ false
-    (sym (c .before .before .before .before .before .block-length .ensures) ∙ (c .before .before .before .v .given .1))
-    (omega arith) (sym (c .before .in-strict .ensures) ∙ (c .if1 .left))
+returns-3 c =
+    let fits = c .before .before .before in
+    let measured = fits .before .before in
+    let x = measured .before .before .args in
+    under (x .strict) (value (x .bytes .now)) _ false (sym (measured .block-length .ensures) ∙ fits .v .given .1) (omega arith)
+    (sym (c .before .in-strict .ensures) ∙ c .if1 .left)
 
 pub loaded-spec : {M : Type 1} → statement M
 loaded-spec =

@@ -31,22 +31,29 @@ data-format-requires c κs = search needs
 
 returns : tie.Need-returns
 returns c =
-    let a = c .before .before .before .before .args in
-    let refused = sym (c .before .number .given .1) ∙ c .before .before .before .new .ensures in
+    let first = c .before .before .before in
+    let a = first .before .args in
+    let refused = sym (c .before .number .given .1) ∙ first .new .ensures in
     ap (λ (x : Compression). joined x (encryption (a .encryption))) refused ∙ methods-of (a .compression) (a .encryption)
 
 returns-2 : tie.Need-returns-2
 returns-2 c =
-    let a = c .before .before .before .before .before .before .before .before .args in
-    let method = sym (c .before .before .before .before .before .c .given .1) ∙ c .before .before .before .before .before .before .before .new .ensures in
-    let refused = sym (c .before .number2 .given .1) ∙ c .before .before .before .new2 .ensures in
+    let second = c .before .before .before in
+    let taken = second .before .before in
+    let first = taken .before .before in
+    let a = first .before .args in
+    let method = sym (taken .c .given .1) ∙ first .new .ensures in
+    let refused = sym (c .before .number2 .given .1) ∙ second .new2 .ensures in
     ap₂ joined method refused ∙ methods-of (a .compression) (a .encryption)
 
 returns-3 : tie.Need-returns-3
 returns-3 c =
-    let a = c .before .before .before .before .before .before .before .before .before .args in
-    let compression = sym (c .before .before .before .before .before .before .c .given .1) ∙ c .before .before .before .before .before .before .before .before .new .ensures in
-    let encryption = sym (c .before .before .e .given .1) ∙ c .before .before .before .before .new2 .ensures in
+    let second = c .before .before .before .before in
+    let taken = second .before .before in
+    let first = taken .before .before in
+    let a = first .before .args in
+    let compression = sym (taken .c .given .1) ∙ first .new .ensures in
+    let encryption = sym (c .before .before .e .given .1) ∙ second .new2 .ensures in
     ap format.Byte (c .data-format .ensures) ∙ ap₂ joined compression encryption ∙ methods-of (a .compression) (a .encryption)
 
 pub methods-spec : {M : Type 1} → statement M
