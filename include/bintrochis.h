@@ -19,7 +19,7 @@ extern "C" {
 #define BINTROCHIS_ANSWER(name) name[static BINTROCHIS_NUMBERS]
 #endif
 
-/* The calls. In brackets: what `value` is, whether there is a `sub`, and what `arguments` hold. */
+/* The calls, with what `value` is, whether there is a `sub`, and what `arguments` hold; data? may be absent. */
 enum bintrochis_call_number {
     BINTROCHIS_REQUEST = 0,                  /* value SID; sub with BINTROCHIS_SUB; data? */
     BINTROCHIS_DIAGNOSTIC_SESSION_CONTROL = 1, /* sub */
@@ -43,13 +43,14 @@ enum bintrochis_flag {
     BINTROCHIS_STRICT = 1,
     BINTROCHIS_SERVER_TIMING = 2, /* call 1 may set P2 and P2* */
     BINTROCHIS_SUPPRESSED = 4,    /* the suppressed client calls: bit 7 of the sub-function is set */
-    BINTROCHIS_LIMITED = 8,       /* the overall timeout `limit` holds */
+    BINTROCHIS_OVERALL = 8,       /* the overall timeout `overall` holds */
     BINTROCHIS_SUB = 16,          /* call 0 only: it has a sub-function */
-    BINTROCHIS_DATA = 32          /* data is given, be it of no bytes; needed by calls 6 and 8 */
+    BINTROCHIS_DATA = 32          /* data is present, be it of no bytes; calls 6 and 8 need it, those with data? may have it, no other */
 };
 
 /* An event, BINTROCHIS_EVENT bytes, big-endian: time u32 in milliseconds since sending, kind u16, offset into the reply bytes u16, length
- * u16. A transport error has its number in place of the length. Times never fall; at most 512 events; a reply has at most 4,095 bytes. */
+ * u16. A transport error has its number in place of the length. Times never fall; at most 512 events, of these kinds; a reply has at most
+ * 4,095 bytes and lies in the reply bytes. A list that breaks one of these is refused (10). */
 #define BINTROCHIS_EVENT 10
 enum bintrochis_event_kind {
     BINTROCHIS_REPLY = 0,
@@ -65,19 +66,19 @@ enum bintrochis_event_kind {
 enum bintrochis_number {
     BINTROCHIS_OUTCOME = 0,
     BINTROCHIS_DETAIL = 1,  /* a negative's code, a transport error's, a deviation's or a refusal's number; else 0 */
-    BINTROCHIS_LEAST = 2,   /* deviation 8: the least length of the reply */
+    BINTROCHIS_LEAST = 2,   /* deviation 8: the least length that the reply may have; else 0 */
     BINTROCHIS_MOST = 3,    /* and the greatest; BINTROCHIS_NO_MAXIMUM: there is none */
-    BINTROCHIS_TIME = 4,    /* the finishing time */
-    BINTROCHIS_EVENTS = 5,  /* how many events were read */
-    BINTROCHIS_NOTICES = 6, /* and how many of these were wait notices, 7F SID 78 */
-    BINTROCHIS_DATA_AT = 7, /* the data that a positive hands out: where in the reply bytes */
+    BINTROCHIS_TIME = 4,    /* the finishing time, in milliseconds since sending; under a refusal 0 */
+    BINTROCHIS_EVENTS = 5,  /* how many events were read, the one that settled the call included */
+    BINTROCHIS_NOTICES = 6, /* and how many of these were wait notices, negatives of code 78 */
+    BINTROCHIS_DATA_AT = 7, /* the data that a positive hands out: where in the reply bytes; else 0 */
     BINTROCHIS_DATA_LENGTH = 8,
-    BINTROCHIS_REPLY_AT = 9, /* the reply that settled the call */
+    BINTROCHIS_REPLY_AT = 9, /* the reply that settled the call: where in the reply bytes; 0, of length 0, if none did */
     BINTROCHIS_REPLY_LENGTH = 10,
-    BINTROCHIS_BLOCK_LENGTH = 11, /* calls 11 and 12: the number that they return; else 0 */
+    BINTROCHIS_BLOCK_LENGTH = 11, /* calls 11 and 12, answered positive: the block length that they return; else 0 */
     BINTROCHIS_P2 = 12,           /* the session's timing afterwards, in milliseconds */
     BINTROCHIS_P2_STAR = 13,
-    BINTROCHIS_REQUEST_LENGTH = 14, /* how many bytes to send; under a refusal 0 */
+    BINTROCHIS_REQUEST_LENGTH = 14, /* how many bytes are sent, those at the front of `request`; under a refusal 0 */
     BINTROCHIS_NUMBERS = 15
 };
 
@@ -91,7 +92,7 @@ enum bintrochis_outcome {
     BINTROCHIS_DISCONNECTED = 4,
     BINTROCHIS_TRANSPORT = 5,
     BINTROCHIS_DEVIATION = 6, /* strict: the reply breaks a rule, numbered 1 to 15 */
-    BINTROCHIS_LENGTH = 7,    /* lenient: the reply is too short to read, or too long */
+    BINTROCHIS_LENGTH = 7,    /* lenient: the reply is too short to read */
     BINTROCHIS_OVERFLOW = 8,  /* calls 11 and 12: a block length above 2^64 - 1 */
     BINTROCHIS_REFUSED = 9    /* nothing to send: refusal 1 to 10; request and timing are untouched */
 };
@@ -102,19 +103,20 @@ enum bintrochis_result {
     BINTROCHIS_MISUSE = 1 /* the numbers ask no call, and nothing was touched. This is so when and only when
                              - call is above 14, or in the second function none of 5, 6, 11 and 12;
                              - a flag does not suit the call, or one that it needs is missing;
-                             - a field that the call does not use is not 0 (value, sub, lengths, limit), or value is above 255 for calls 0, 9, 13;
-                             - there are fewer argument bytes than the two lengths say, or more without BINTROCHIS_DATA. */
+                             - a field that the call does not use is not 0 (value, sub, lengths, overall), or value is above 255 for calls 0, 9, 13;
+                             - there are fewer argument bytes than the two lengths say, or more without BINTROCHIS_DATA; in the second
+                               function: there are data bytes without BINTROCHIS_DATA. */
 };
 
 /* Any call. `arguments` are address, size and data, one behind the other, the first two as long as `address_length` and `size_length` say. */
 uint8_t bintrochis_call(uint8_t call, uint8_t flags, uint16_t value, uint8_t sub, uint8_t address_length, uint8_t size_length, uint32_t p2,
-                        uint32_t p2_star, uint32_t limit, const uint8_t *arguments, size_t arguments_length, uint8_t *request,
+                        uint32_t p2_star, uint32_t overall, const uint8_t *arguments, size_t arguments_length, uint8_t *request,
                         size_t request_length, const uint8_t *events, size_t events_length, const uint8_t *replies, size_t replies_length,
                         uint64_t BINTROCHIS_ANSWER(answer));
 
 /* Calls 5, 6, 11 and 12 with address and size as numbers, each with a width in bytes. Refusals 6 and 7 come from here alone. */
 uint8_t bintrochis_call_alfid(uint8_t call, uint8_t flags, uint16_t value, uint64_t address, uint64_t size, size_t address_width,
-                              size_t size_width, uint32_t p2, uint32_t p2_star, uint32_t limit, const uint8_t *data, size_t data_length,
+                              size_t size_width, uint32_t p2, uint32_t p2_star, uint32_t overall, const uint8_t *data, size_t data_length,
                               uint8_t *request, size_t request_length, const uint8_t *events, size_t events_length, const uint8_t *replies,
                               size_t replies_length, uint64_t BINTROCHIS_ANSWER(answer));
 

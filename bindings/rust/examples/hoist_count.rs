@@ -8,7 +8,7 @@ fn main() {
         strict: true,
         server_timing: true,
         suppressed: false,
-        timeout: None,
+        overall: None,
     };
     let asked = Asked::new(&call, &config);
     let mut session = Session {

@@ -36,7 +36,7 @@ extern "C" {
         size_length: u8,
         p2: u32,
         p2_star: u32,
-        limit: u32,
+        overall: u32,
         arguments: *const u8,
         arguments_length: usize,
         request: *mut u8,
@@ -58,7 +58,7 @@ extern "C" {
         size_width: usize,
         p2: u32,
         p2_star: u32,
-        limit: u32,
+        overall: u32,
         data: *const u8,
         data_length: usize,
         request: *mut u8,
@@ -79,7 +79,7 @@ pub struct Fields {
     pub value: u16,
     pub sub: u8,
     pub memory: Memory,
-    pub limit: u32,
+    pub overall: u32,
 }
 
 /// Lengths of address and size where these are bytes, or in the `alfid` form the numbers themselves.
@@ -113,7 +113,7 @@ pub fn call(fields: Fields, [p2, p2_star]: [u32; 2], lent: Lent<'_>, answer: &mu
         value,
         sub,
         memory,
-        limit,
+        overall,
     } = fields;
     let Lent {
         arguments,
@@ -134,7 +134,7 @@ pub fn call(fields: Fields, [p2, p2_star]: [u32; 2], lent: Lent<'_>, answer: &mu
                 size,
                 p2,
                 p2_star,
-                limit,
+                overall,
                 arguments.as_ptr(),
                 arguments.len(),
                 request.as_mut_ptr(),
@@ -160,7 +160,7 @@ pub fn call(fields: Fields, [p2, p2_star]: [u32; 2], lent: Lent<'_>, answer: &mu
                 size_width,
                 p2,
                 p2_star,
-                limit,
+                overall,
                 arguments.as_ptr(),
                 arguments.len(),
                 request.as_mut_ptr(),
@@ -192,7 +192,7 @@ mod tests {
             value: 0x2101,
             sub: 0,
             memory: PLAIN,
-            limit: 0,
+            overall: 0,
         }
     }
 
@@ -275,7 +275,13 @@ mod tests {
             ),
             (Fields { call: 8, ..read() }, &[]),
             (Fields { sub: 1, ..read() }, &[]),
-            (Fields { limit: 1, ..read() }, &[]),
+            (
+                Fields {
+                    overall: 1,
+                    ..read()
+                },
+                &[],
+            ),
             (
                 Fields {
                     memory: Memory::Lengths {

@@ -27,8 +27,8 @@ pub struct Config {
     pub server_timing: bool,
     /// The suppressed client calls: bit 7 of the sub-function is set.
     pub suppressed: bool,
-    /// The overall timeout, in milliseconds since sending.
-    pub timeout: Option<u32>,
+    /// The overall timeout T, in milliseconds since sending; none if left out.
+    pub overall: Option<u32>,
 }
 
 /// Address and size: bytes, or numbers with a width in bytes each.
@@ -46,7 +46,7 @@ pub enum Memory<'a> {
     },
 }
 
-/// The calls, under the names of the Rust's services. Data that is absent is not data of no bytes.
+/// The calls, under the names of the Rust's services. Data is absent (`None`) or present, be it of no bytes; the two are not the same.
 #[derive(Debug, Clone, Copy, PartialEq, Eq)]
 pub enum Call<'a> {
     Request {
@@ -138,7 +138,7 @@ pub enum Outcome<'r> {
     /// The number that the transport's error was given.
     Transport(u16),
     ProtocolDeviation(ProtocolDeviation),
-    /// Lenient: a reply too short to read, or too long.
+    /// Lenient: a reply too short to read.
     InvalidResponseLength,
     BlockLengthOverflow,
     /// Nothing to send, by the refusal of this number.
@@ -151,14 +151,14 @@ pub struct Answer<'q, 'r> {
     pub outcome: Outcome<'r>,
     /// The finishing time, in milliseconds since sending.
     pub time: u64,
-    /// How many events were read, and how many of these were wait notices.
+    /// How many events were read, the one that settled the call included, and how many of these were wait notices.
     pub events: usize,
     pub notices: usize,
     /// The reply that settled the call; empty if none did.
     pub reply: &'r [u8],
-    /// The block length of a download or an upload, and else 0.
+    /// The block length of a download or an upload that was answered positive, and else 0.
     pub block_length: u64,
-    /// The request to send; empty under a refusal.
+    /// The bytes that are sent; empty under a refusal.
     pub request: &'q [u8],
 }
 
@@ -205,7 +205,7 @@ impl Events {
 const STRICT: u8 = 1;
 const SERVER_TIMING: u8 = 2;
 const SUPPRESSED: u8 = 4;
-const LIMITED: u8 = 8;
+const OVERALL: u8 = 8;
 const SUB: u8 = 16;
 const DATA: u8 = 32;
 
@@ -295,7 +295,7 @@ impl Asked {
             (STRICT, config.strict),
             (SERVER_TIMING, config.server_timing),
             (SUPPRESSED, config.suppressed),
-            (LIMITED, config.timeout.is_some()),
+            (OVERALL, config.overall.is_some()),
             (SUB, call == 0 && sub.is_some()),
             (DATA, data.is_some()),
         ];
@@ -308,7 +308,7 @@ impl Asked {
             value,
             sub: sub.unwrap_or(0),
             memory,
-            limit: config.timeout.unwrap_or(0),
+            overall: config.overall.unwrap_or(0),
         };
         Asked { fields, arguments }
     }

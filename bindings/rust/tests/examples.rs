@@ -9,7 +9,7 @@ const STRICT: Config = Config {
     strict: true,
     server_timing: true,
     suppressed: false,
-    timeout: None,
+    overall: None,
 };
 const LENIENT: Config = Config {
     strict: false,
@@ -22,9 +22,9 @@ const QUIET: Config = Config {
 const READ: Call<'static> = Call::ReadDataByIdentifier { identifier: 0xf190 };
 const RESET: Call<'static> = Call::EcuReset { reset_type: 0x81 };
 
-fn until(limit: u32) -> Config {
+fn until(overall: u32) -> Config {
     Config {
-        timeout: Some(limit),
+        overall: Some(overall),
         ..STRICT
     }
 }

@@ -3,7 +3,7 @@ use Prim.Native.Nat.{ℕ, zero, suc, _+_, _-_, _/_}
 use mathlib.Core.List.{List, [], _++_}
 use lib.ListN.{length}
 use Rattle.rules.specs.Blocks.{block, counter, cuts}
-use Rattle.rules.specs.Checks.{judge}
+use Rattle.rules.specs.InOrder.{judge}
 use Rattle.blocks.specs.declared.Cut.{Cut}
 use Rattle.blocks.specs.declared.Cut.the-variants.{Counter, Refused}
 

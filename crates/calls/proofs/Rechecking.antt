@@ -21,9 +21,7 @@ NotPositive (outcome.NegativeResponse c) = Unit {0}
 NotPositive outcome.Timeout = Unit {0}
 NotPositive outcome.Disconnected = Unit {0}
 NotPositive (outcome.Transport n) = Unit {0}
-NotPositive (outcome.ProtocolDeviation d) = Unit {0}
-NotPositive outcome.InvalidResponseLength = Unit {0}
-NotPositive outcome.BlockLengthOverflow = Unit {0}
+NotPositive (outcome.Fault f) = Unit {0}
 NotPositive (outcome.Refused n) = Unit {0}
 
 module _ (replies : List ℕ) where
@@ -34,19 +32,17 @@ module _ (replies : List ℕ) where
   stays outcome.Timeout n f = refl
   stays outcome.Disconnected n f = refl
   stays (outcome.Transport k) n f = refl
-  stays (outcome.ProtocolDeviation d) n f = refl
-  stays outcome.InvalidResponseLength n f = refl
-  stays outcome.BlockLengthOverflow n f = refl
+  stays (outcome.Fault e) n f = refl
   stays (outcome.Refused k) n f = refl
 
   module _ {ask : Ask} {a s : List ℕ} {heard : Answer} where
     pub as-heard : {o : Outcome} → NotPositive o → heard .outcome ≡ o → Rechecked ask a s replies heard (heard .outcome)
-    as-heard n e = record { means = λ d. stays (heard .outcome) (subst⁻¹ NotPositive e n) _; inside = λ i. i }
+    as-heard n e = record { means = stays (heard .outcome) (subst⁻¹ NotPositive e n) _; inside = λ i. i }
 
     pub checked-again : {p : Place} {r : Outcome} → heard .outcome ≡ outcome.PositiveResponse p
-        → Checked (ask .strict) (ask .call) a s (ask .present) replies (heard .reply) r → Rechecked ask a s replies heard r
+        → Checked (ask .strict) (ask .call) a s replies (heard .reply) r → Rechecked ask a s replies heard r
     checked-again e k = record {
-      means = λ d. k .means d ∙
-          sym (ap (λ (o : Outcome). ifPositive (outcomeOf replies o) (λ p. answered replies (checked (ask .strict) (asked (ask .call) a s (ask .present) d) (partOf replies (heard .reply)))) (outcomeOf replies o)) e);
+      means = k .means ∙
+          sym (ap (λ (o : Outcome). ifPositive (outcomeOf replies o) (λ p. answered replies (checked (ask .strict) (asked (ask .call) a s) (partOf replies (heard .reply)))) (outcomeOf replies o)) e);
       inside = λ i. k .inside;
     }

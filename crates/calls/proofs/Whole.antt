@@ -1,4 +1,4 @@
--- Of a whole call: at most one answer fits its contract, and demand 3 is carried to the code.
+-- Of a whole call: at most one answer fits its contract, and demands 1 and 3 are carried to the code; and of two calls in a row.
 use Prim.Native.Nat.{ℕ}
 use mathlib.Core.Bool.{Bool, true}
 use mathlib.Core.Path.{_≡_, sym, _∙_, ap, subst⁻¹}
@@ -9,19 +9,19 @@ use Rattle.rules.specs.Answers as rules
 use Rattle.rules.specs.Calls.{Call}
 use Rattle.rules.specs.Client.{Result, eventsIn, call}
 use Rattle.rules.specs.Conversations.{Conversation}
+use Rattle.rules.specs.Demand1.{Untouched}
 use Rattle.rules.specs.Demand3 as demand
-use Rattle.rules.specs.Settings.{Setting, Lent}
+use Rattle.rules.specs.Settings.{Timing, Setting, Lent}
+use Rattle.rules.proofs.Demand1.{demand1}
 use Rattle.rules.proofs.Demand3.{demand3}
 use Rattle.exchange.specs.Meaning.{answerOf}
 use Rattle.exchange.specs.Places.{Answers}
 use Rattle.exchange.specs.declared.types.Answer.{Answer}
 use Rattle.exchange.proofs.Unique.{answers-unique}
-use Rattle.calls.specs.Meaning.{timingOf, resultOf, Called}
-use Rattle.calls.specs.declared.Session.{Session}
+use Rattle.checks.proofs.Unique.{timing-unique}
+use Rattle.calls.specs.Meaning.{settingOf, resultOf, inTiming, Called}
+use Rattle.calls.specs.declared.Ask.{Ask}
 use Rattle.calls.specs.declared.Answered.{Answered}
-
-same-session : (s t : Session) → timingOf s ≡ timingOf t → s ≡ t
-same-session s t e = λ i. record { p2 = e i .p2; star = e i .star }
 
 module _ {strict : Bool} {w : Setting} {c : Call} {l : Lent} where
   -- The answer of a call, as the exchange's contract would say it.
@@ -33,14 +33,29 @@ module _ {strict : Bool} {w : Setting} {c : Call} {l : Lent} where
       let same : resultOf (l .replies) r _ ≡ resultOf (l .replies) s _ = k .means ∙ sym (h .means) in
       let answer : r .answer ≡ s .answer = answers-unique (l .replies) (answers k) (answers h) in
       let number = ap (λ (x : Result). x .number) same in
-      let session = same-session (r .session) (s .session) (ap (λ (x : Result). x .timing) same) in
-      (λ i. record { answer = answer i; number = number i; session = session i }, ap (λ (x : Result). x .buffer) same)
+      let sent = ap (λ (x : Result). x .sent) same in
+      let timing = timing-unique (r .timing) (s .timing) (ap (λ (x : Result). x .timing) same) in
+      (λ i. record { answer = answer i; number = number i; sent = sent i; timing = timing i }, ap (λ (x : Result). x .buffer) same)
 
 -- Demand 3: a strict call that is not refused and has no overall timeout answers exactly when the events begin with an allowed conversation, and its answer is that conversation's.
-pub demand-3 : {w : Setting} {c : Call} {l : Lent} {r : Answered} {buffer : List ℕ} → Called true w c l r buffer → demand.Named c → w .limit ≡ none
+pub demand-3 : {w : Setting} {c : Call} {l : Lent} {r : Answered} {buffer : List ℕ} → Called true w c l r buffer → demand.Named c → w .overall ≡ none
     → ¬ demand.Refused (answerOf (l .replies) (r .answer) .outcome) → (x : rules.Answer)
     → ((answerOf (l .replies) (r .answer) ≡ x) × demand.Answers (x .outcome)) ↔ Conversation w c (eventsIn l) x
 demand-3 {w = w} {c = c} {l = l} {r = r} k n t ok x =
     let same : answerOf (l .replies) (r .answer) ≡ call true w c l .answer = ap (λ (y : Result). y .answer) (k .means) in
     let d = demand3 w c l n t (λ z. ok (subst⁻¹ (λ (y : rules.Answer). demand.Refused (y .outcome)) same z)) x in
     (λ h. d .0 (sym same ∙ h .0, h .1), λ h. let y = d .1 h in (same ∙ y .0, y .1))
+
+-- Demand 1's second sentence: a refused call has one number of document 01's, sent nothing, and leaves the request buffer and the session timing as they were.
+pub demand-1 : {strict : Bool} {w : Setting} {c : Call} {l : Lent} {r : Answered} {buffer : List ℕ} {n : ℕ} → Called strict w c l r buffer
+    → answerOf (l .replies) (r .answer) .outcome ≡ rules.refused n → Untouched w c l n (resultOf (l .replies) r buffer)
+demand-1 {strict} {w} {c} {l} {n = n} k e =
+    subst⁻¹ (Untouched w c l n) (k .means) (demand1 strict w c l n (sym (ap (λ (y : Result). y .answer .outcome) (k .means)) ∙ e))
+
+-- Two calls in a row, the second in the session that the first leaves: it runs with the timing that the first set.
+pub in-a-row : {strict strict′ : Bool} {w : Setting} {c c′ : Call} {l l′ : Lent} {r r′ : Answered} {buffer buffer′ : List ℕ} (ask : Ask) → Called strict w c l r buffer
+    → Called strict′ (settingOf ask (r .timing)) c′ l′ r′ buffer′
+    → resultOf (l′ .replies) r′ buffer′ ≡ call strict′ (inTiming (call strict w c l .timing) (settingOf ask (r .timing))) c′ l′
+in-a-row {strict} {strict′} {w} {c} {c′} {l} {l′} {r} ask k k′ =
+    k′ .means ∙
+    ap (λ (t : Timing). call strict′ (inTiming t (settingOf ask (r .timing))) c′ l′) (ap (λ (y : Result). y .timing) (k .means))

@@ -12,7 +12,7 @@ use Rattle.rules.specs.After.{checked}
 use Rattle.rules.specs.Bytes.{bytesOf}
 use Rattle.rules.specs.Calls as rules
 use Rattle.rules.specs.Calls.{Field, given, alfid, sent}
-use Rattle.rules.specs.Checks.{judge}
+use Rattle.rules.specs.InOrder.{judge}
 use Rattle.rules.specs.Client.{Result, refuse, call}
 use Rattle.rules.specs.Refusals.{width}
 use Rattle.rules.specs.Settings.{Setting, Lent}
@@ -20,64 +20,66 @@ use Rattle.wire.specs.Memory.{memoryBytes, refused}
 use Rattle.wire.specs.declared.MemoryBytes.{MemoryBytes}
 use Rattle.wire.proofs.Numbers.{bytes-length}
 use Rattle.requests.specs.Meaning.{callFrom}
-use Rattle.requests.specs.Requests.{first}
-use Rattle.requests.specs.declared.calls.Call.{Call}
-use Rattle.requests.specs.declared.calls.Call.the-variants as call-of
-use Rattle.requests.proofs.Judging.{judge-append, by-number}
-use Rattle.requests.proofs.Refusals.{numbered-width}
-use Rattle.calls.specs.Meaning.{settingOf, refusedOf, takesMemory, Called}
-use Rattle.calls.specs.declared.Session.{Session}
+use Rattle.requests.specs.Prepared.{first}
+use Rattle.requests.specs.Rows.{rowOf, takesMemory}
+use Rattle.requests.specs.declared.Call.{Call}
+use Rattle.requests.specs.declared.Call.the-variants as call-of
+use Rattle.rules.proofs.Judging.{judge-append}
+use Rattle.requests.proofs.Judging.{by-number}
+use Rattle.requests.proofs.Refusals.{non-zero-width}
+use Rattle.calls.specs.Meaning.{settingOf, refusedOf, Called}
+use Rattle.exchange.specs.declared.types.Timing.{Timing}
 use Rattle.calls.specs.declared.Ask.{Ask}
 use Rattle.calls.specs.declared.Answered.{Answered}
 
 -- A call that takes neither address nor size is the same with any.
-pub no-fields : (k : Call) (a s a′ s′ : Field) (p : Bool) (d : List ℕ) → takesMemory k ≡ false → callFrom k a s p d ≡ callFrom k a′ s′ p d
-no-fields (call-of.Request sid sub) a s a′ s′ p d e = refl
-no-fields (call-of.DiagnosticSessionControl sub) a s a′ s′ p d e = refl
-no-fields (call-of.EcuReset sub) a s a′ s′ p d e = refl
-no-fields (call-of.SecurityAccess sub) a s a′ s′ p d e = refl
-no-fields call-of.TesterPresent a s a′ s′ p d e = refl
-no-fields call-of.ReadMemoryByAddress a s a′ s′ p d e = absurd (true≢false e)
-no-fields call-of.WriteMemoryByAddress a s a′ s′ p d e = absurd (true≢false e)
-no-fields (call-of.ReadDataByIdentifier id) a s a′ s′ p d e = refl
-no-fields (call-of.WriteDataByIdentifier id) a s a′ s′ p d e = refl
-no-fields (call-of.ReadDTCInformation mask) a s a′ s′ p d e = refl
-no-fields (call-of.RoutineControl sub id) a s a′ s′ p d e = refl
-no-fields (call-of.RequestDownload c e) a s a′ s′ p d h = absurd (true≢false h)
-no-fields (call-of.RequestUpload c e) a s a′ s′ p d h = absurd (true≢false h)
-no-fields (call-of.TransferData counter) a s a′ s′ p d e = refl
-no-fields call-of.RequestTransferExit a s a′ s′ p d e = refl
+pub no-fields : (k : Call) (a s a′ s′ : Field) (d : List ℕ) → takesMemory (rowOf k .takes) ≡ false → callFrom k a s d ≡ callFrom k a′ s′ d
+no-fields (call-of.Request sid sub x) a s a′ s′ d h = refl
+no-fields (call-of.DiagnosticSessionControl sub) a s a′ s′ d h = refl
+no-fields (call-of.EcuReset sub) a s a′ s′ d h = refl
+no-fields (call-of.SecurityAccess sub x) a s a′ s′ d h = refl
+no-fields call-of.TesterPresent a s a′ s′ d h = refl
+no-fields call-of.ReadMemoryByAddress a s a′ s′ d h = absurd (true≢false h)
+no-fields call-of.WriteMemoryByAddress a s a′ s′ d h = absurd (true≢false h)
+no-fields (call-of.ReadDataByIdentifier id) a s a′ s′ d h = refl
+no-fields (call-of.WriteDataByIdentifier id) a s a′ s′ d h = refl
+no-fields (call-of.ReadDTCInformation mask) a s a′ s′ d h = refl
+no-fields (call-of.RoutineControl sub id x) a s a′ s′ d h = refl
+no-fields (call-of.RequestDownload c e) a s a′ s′ d h = absurd (true≢false h)
+no-fields (call-of.RequestUpload c e) a s a′ s′ d h = absurd (true≢false h)
+no-fields (call-of.TransferData counter x) a s a′ s′ d h = refl
+no-fields (call-of.RequestTransferExit x) a s a′ s′ d h = refl
 
 -- Of a call that takes them, the widths are judged first.
-module _ (m : Bool) (w : Setting) (l : Lent) (a s : Field) (p : Bool) (d : List ℕ) where
+module _ (strict : Bool) (w : Setting) (l : Lent) (a s : Field) (d : List ℕ) where
   abbrev Widths : Call → Type 0
   Widths k =
-      call m w (callFrom k a s p d) l ≡
-      judge (refuse w l) (width a) (judge (refuse w l) (width s) (call m w (callFrom k (given (sent a)) (given (sent s)) p d) l))
+      call strict w (callFrom k a s d) l ≡
+      judge (refuse w l) (width a) (judge (refuse w l) (width s) (call strict w (callFrom k (given (sent a)) (given (sent s)) d) l))
 
-  widths : (k : Call) → takesMemory k ≡ true → Widths k
+  widths : (k : Call) → takesMemory (rowOf k .takes) ≡ true → Widths k
   unfolding call checked
-  widths (call-of.Request sid sub) e = absurd (false≢true e)
-  widths (call-of.DiagnosticSessionControl sub) e = absurd (false≢true e)
-  widths (call-of.EcuReset sub) e = absurd (false≢true e)
-  widths (call-of.SecurityAccess sub) e = absurd (false≢true e)
-  widths call-of.TesterPresent e = absurd (false≢true e)
-  widths call-of.ReadMemoryByAddress e = simp judge-append
-  widths call-of.WriteMemoryByAddress e = simp judge-append
-  widths (call-of.ReadDataByIdentifier id) e = absurd (false≢true e)
-  widths (call-of.WriteDataByIdentifier id) e = absurd (false≢true e)
-  widths (call-of.ReadDTCInformation mask) e = absurd (false≢true e)
-  widths (call-of.RoutineControl sub id) e = absurd (false≢true e)
+  widths (call-of.Request sid sub x) h = absurd (false≢true h)
+  widths (call-of.DiagnosticSessionControl sub) h = absurd (false≢true h)
+  widths (call-of.EcuReset sub) h = absurd (false≢true h)
+  widths (call-of.SecurityAccess sub x) h = absurd (false≢true h)
+  widths call-of.TesterPresent h = absurd (false≢true h)
+  widths call-of.ReadMemoryByAddress h = simp judge-append
+  widths call-of.WriteMemoryByAddress h = simp judge-append
+  widths (call-of.ReadDataByIdentifier id) h = absurd (false≢true h)
+  widths (call-of.WriteDataByIdentifier id) h = absurd (false≢true h)
+  widths (call-of.ReadDTCInformation mask) h = absurd (false≢true h)
+  widths (call-of.RoutineControl sub id x) h = absurd (false≢true h)
   widths (call-of.RequestDownload c e) h = simp judge-append
   widths (call-of.RequestUpload c e) h = simp judge-append
-  widths (call-of.TransferData counter) e = absurd (false≢true e)
-  widths call-of.RequestTransferExit e = absurd (false≢true e)
+  widths (call-of.TransferData counter x) h = absurd (false≢true h)
+  widths (call-of.RequestTransferExit x) h = absurd (false≢true h)
 
 -- What `memory_bytes` answers: the first refusal of the field, or its bytes.
 module _ (v w : ℕ) where
   told : memoryBytes v w ≡ cond (eqb (first (width (alfid v w))) 0) (record { refusal = 0; len = w; bytes = bytesOf w v ++ replicate (15 - w) 0 }) (refused (first (width (alfid v w))))
   unfolding memoryBytes
-  told = by-number refused (width (alfid v w)) _ (numbered-width (alfid v w))
+  told = by-number refused (width (alfid v w)) _ (non-zero-width (alfid v w))
 
   module _ {x : MemoryBytes} (is : x ≡ memoryBytes v w) where
     refusal-of : first (width (alfid v w)) ≡ x .refusal
@@ -97,7 +99,7 @@ module _ (v w : ℕ) where
 
 -- What the `alfid` form is given: the session, what is asked, address and size as numbers with their widths, data, and what is lent.
 pub record Given : Type 0 where
-  pub session : Session
+  pub session : Timing
   pub ask : Ask
   pub v : ℕ
   pub u : ℕ
@@ -111,7 +113,7 @@ module _ (g : Given) where
   setting = settingOf (g .ask) (g .session)
 
   abbrev with′ : Field → Field → rules.Call
-  with′ a s = callFrom (g .ask .call) a s (g .ask .present) (g .d)
+  with′ a s = callFrom (g .ask .call) a s (g .d)
 
   abbrev asked : rules.Call
   asked = with′ (alfid (g .v) (g .w)) (alfid (g .u) (g .w′))
@@ -128,18 +130,18 @@ module _ (g : Given) where
   moved : {c : rules.Call} {r : Answered} {b : List ℕ} → done c ≡ done asked → Means c r b → Means asked r b
   moved e k = record { means = k .means ∙ e; outcome = k .outcome; reply = k .reply }
 
-  pub without : {r : Answered} {b : List ℕ} → takesMemory (g .ask .call) ≡ false → Means (with′ (given []) (given [])) r b → Means asked r b
-  without e = moved (ap done (no-fields (g .ask .call) _ _ _ _ (g .ask .present) (g .d) e))
+  pub without : {r : Answered} {b : List ℕ} → takesMemory (rowOf (g .ask .call) .takes) ≡ false → Means (with′ (given []) (given [])) r b → Means asked r b
+  without e = moved (ap done (no-fields (g .ask .call) _ _ _ _ (g .d) e))
 
-  module _ (takes : takesMemory (g .ask .call) ≡ true) where
+  module _ (takes : takesMemory (rowOf (g .ask .call) .takes) ≡ true) where
     by-numbers : done asked ≡
         cond (eqb (first (width (alfid (g .v) (g .w)))) 0)
         (cond (eqb (first (width (alfid (g .u) (g .w′)))) 0) (done (with′ (given (bytesOf (g .w) (g .v))) (given (bytesOf (g .w′) (g .u))))) (refuse setting (g .lent) (first (width (alfid (g .u) (g .w′))))))
         (refuse setting (g .lent) (first (width (alfid (g .v) (g .w)))))
     by-numbers =
-        widths (g .ask .strict) setting (g .lent) (alfid (g .v) (g .w)) (alfid (g .u) (g .w′)) (g .ask .present) (g .d) (g .ask .call) takes ∙
-        by-number (refuse setting (g .lent)) (width (alfid (g .v) (g .w))) _ (numbered-width (alfid (g .v) (g .w))) ∙
-        rw (by-number (refuse setting (g .lent)) (width (alfid (g .u) (g .w′))) (done (with′ (given (bytesOf (g .w) (g .v))) (given (bytesOf (g .w′) (g .u))))) (numbered-width (alfid (g .u) (g .w′))))
+        widths (g .ask .strict) setting (g .lent) (alfid (g .v) (g .w)) (alfid (g .u) (g .w′)) (g .d) (g .ask .call) takes ∙
+        by-number (refuse setting (g .lent)) (width (alfid (g .v) (g .w))) _ (non-zero-width (alfid (g .v) (g .w))) ∙
+        rw (by-number (refuse setting (g .lent)) (width (alfid (g .u) (g .w′))) (done (with′ (given (bytesOf (g .w) (g .v))) (given (bytesOf (g .w′) (g .u))))) (non-zero-width (alfid (g .u) (g .w′))))
 
     module _ {a : MemoryBytes} (as-address : a ≡ memoryBytes (g .v) (g .w)) where
       pub address-refused : (a .refusal ≡ 0 → ⊥) → Means asked (refusedOf (g .session) (a .refusal)) (g .lent .buffer)

@@ -4,41 +4,38 @@ use exchange::types::Asked;
 use exchange::types::Outcome;
 use exchange::types::Place;
 use exchange::types::RequestTimeout;
-use requests::calls::Call;
-ghost use Prim.Native.Nat.{ℕ};
-ghost use mathlib.Core.List.{List};
+use exchange::types::Timing;
+use requests::Call;
+use requests::rows::Takes;
+use requests::rows::row_of;
+ghost use mathlib.Core.List.{[]};
 ghost use mathlib.Core.Path.{_≡_};
 ghost use Rattle.exchange.specs.Meaning.{outcomeOf};
 ghost use Rattle.rules.specs.Calls.{alfid};
 ghost use Rattle.requests.specs.Meaning.{callFrom, callOf};
-ghost use Rattle.calls.specs.Meaning.{settingOf, lentOf, refusedOf, isRefused, takesMemory, handedOf, Called};
+ghost use Rattle.requests.specs.Rows.{takesMemory};
+ghost use Rattle.calls.specs.Meaning.{settingOf, lentOf, refusedOf, isRefused, handedOf, Called, HandsOut};
 ghost use Rattle.calls.specs.Concluded.{Rechecked, Concluded};
 
-// "the session record, two numbers that the host lends": P2 and P2*, in milliseconds.
-pub struct Session {
-    pub p2: u32,
-    pub star: u32,
-}
-
-// What is asked, by value: the call and whether data is given, and how it is made.
+// What is asked, by value: the call, and how it is made.
 pub struct Ask {
     pub call: Call,
-    pub present: bool,
     pub quiet: bool,
     pub strict: bool,
     pub server: bool,
-    pub timeout: RequestTimeout,
+    pub overall: RequestTimeout,
 }
 
-// The answer, the number that calls 11 and 12 return, and the session's timing afterwards.
+// The answer, the number that calls 11 and 12 return, how many bytes were sent, and the session's timing afterwards.
 pub struct Answered {
     pub answer: Answer,
     pub number: u64,
-    pub session: Session,
+    pub sent: usize,
+    pub timing: Timing,
 }
 
 // "Refused: the number, time and counts 0, all buffers and timing untouched."
-fn refused(session: Session, number: u8) -> Answered
+fn refused(session: Timing, number: u8) -> Answered
     ensures { λ r. ⌜ r ≡ refusedOf session number ⌝ }
 {
     let answer = Answer {
@@ -51,7 +48,8 @@ fn refused(session: Session, number: u8) -> Answered
     Answered {
         answer,
         number: 0,
-        session,
+        sent: 0,
+        timing: session,
     }
 }
 
@@ -61,41 +59,39 @@ fn rechecked(ask: Ask, address: &[u8], size: &[u8], replies: &[u8], heard: Answe
 {
     let strict = ask.strict;
     let call = ask.call;
-    let present = ask.present;
     let outcome = heard.outcome;
     let reply = heard.reply;
     match outcome {
         Outcome::PositiveResponse(_) => {
-            checks::check(strict, call, address, size, present, replies, reply)
+            checks::check(strict, call, address, size, replies, reply)
         }
         Outcome::Suppressed => outcome,
         Outcome::NegativeResponse(_) => outcome,
         Outcome::Timeout => outcome,
         Outcome::Disconnected => outcome,
         Outcome::Transport(_) => outcome,
-        Outcome::ProtocolDeviation(_) => outcome,
-        Outcome::InvalidResponseLength => outcome,
-        Outcome::BlockLengthOverflow => outcome,
+        Outcome::Fault(_) => outcome,
         Outcome::Refused(_) => outcome,
     }
 }
 
 // What was heard, checked; the number and the session's timing that come of it.
 fn concluded(
-    session: Session,
+    session: Timing,
     ask: Ask,
+    sent: usize,
     address: &[u8],
     size: &[u8],
     replies: &[u8],
     heard: Answer,
 ) -> Answered
-    ensures { λ r. ⌜ Concluded session ask (now (address .entry)) (now (size .entry)) (now (replies .entry)) heard r ⌝ }
+    ensures { λ r. ⌜ Concluded session ask sent (now (address .entry)) (now (size .entry)) (now (replies .entry)) heard r ⌝ }
 {
     let call = ask.call;
     let server = ask.server;
     let outcome = rechecked(ask, address, size, replies, heard);
     let number = checks::number(call, outcome, replies);
-    let timing = checks::timing(server, call, outcome, replies, session.p2, session.star);
+    let timing = checks::timing(server, call, outcome, replies, session);
     let reply = heard.reply;
     let answer = Answer {
         outcome,
@@ -104,19 +100,16 @@ fn concluded(
         notices: heard.notices,
         reply,
     };
-    let session = Session {
-        p2: timing.p2,
-        star: timing.star,
-    };
     Answered {
         answer,
         number,
-        session,
+        sent,
+        timing,
     }
 }
 
 fn is_refused(outcome: Outcome) -> bool
-    ensures { λ r. ⌜ ((replies : List ℕ) → r ≡ isRefused (outcomeOf replies outcome)) ⌝ }
+    ensures { λ r. ⌜ r ≡ isRefused (outcomeOf [] outcome) ⌝ }
 {
     match outcome {
         Outcome::PositiveResponse(_) => false,
@@ -125,16 +118,14 @@ fn is_refused(outcome: Outcome) -> bool
         Outcome::Timeout => false,
         Outcome::Disconnected => false,
         Outcome::Transport(_) => false,
-        Outcome::ProtocolDeviation(_) => false,
-        Outcome::InvalidResponseLength => false,
-        Outcome::BlockLengthOverflow => false,
+        Outcome::Fault(_) => false,
         Outcome::Refused(_) => true,
     }
 }
 
 // The whole call. Refusals 1 to 9 come first, then the exchange with refusal 10; the request is written once nothing can refuse it.
 pub fn run(
-    session: Session,
+    session: Timing,
     ask: Ask,
     request: &mut [u8],
     address: &[u8],
@@ -143,61 +134,47 @@ pub fn run(
     events: &[u8],
     replies: &[u8],
 ) -> Answered
-    ensures { λ r. ⌜ Called (ask .strict) (settingOf ask session) (callOf (ask .call) (now (address .entry)) (now (size .entry)) (ask .present) (now («data» .entry))) (lentOf (now (request .entry)) (now (events .entry)) (now (replies .entry))) r (now (request .exit)) ⌝ }
+    ensures { λ r. ⌜ Called (ask .strict) (settingOf ask session) (callOf (ask .call) (now (address .entry)) (now (size .entry)) (now («data» .entry))) (lentOf (now (request .entry)) (now (events .entry)) (now (replies .entry))) r (now (request .exit)) ⌝ }
 {
     let call = ask.call;
-    let present = ask.present;
     let quiet = ask.quiet;
     let strict = ask.strict;
-    let timeout = ask.timeout;
-    let room = request.len();
-    let number = requests::refusal(call, quiet, address, size, present, data, room);
+    let overall = ask.overall;
+    let prepared = requests::prepare(call, quiet, address, size, data, request.len());
+    let number = prepared.refusal;
     if number != 0 {
         return refused(session, number);
     }
-    let sid = requests::service_id(call);
-    let sub = requests::sub_function(call, quiet);
+    let sub = prepared.sub;
     let asked = Asked {
-        sid,
+        sid: prepared.sid,
         sub,
-        p2: session.p2,
-        star: session.star,
+        timing: session,
     };
-    let heard = exchange::exchange(strict, asked, timeout, events, replies);
+    let heard = exchange::exchange(strict, asked, overall, events, replies);
     let outcome = heard.outcome;
     if is_refused(outcome) {
         return refused(session, 10);
     }
-    requests::write_request(request, quiet, call, address, size, present, data);
-    concluded(session, ask, address, size, replies, heard)
+    requests::write(request, prepared, address, size, data);
+    concluded(session, ask, prepared.length, address, size, replies, heard)
 }
 
 // Calls 5, 6, 11 and 12.
-fn takes_memory(call: Call) -> bool
-    ensures { λ r. ⌜ r ≡ takesMemory call ⌝ }
+fn takes_memory(takes: Takes) -> bool
+    ensures { λ r. ⌜ r ≡ takesMemory takes ⌝ }
 {
-    match call {
-        Call::Request(_, _) => false,
-        Call::DiagnosticSessionControl(_) => false,
-        Call::EcuReset(_) => false,
-        Call::SecurityAccess(_) => false,
-        Call::TesterPresent => false,
-        Call::ReadMemoryByAddress => true,
-        Call::WriteMemoryByAddress => true,
-        Call::ReadDataByIdentifier(_) => false,
-        Call::WriteDataByIdentifier(_) => false,
-        Call::ReadDTCInformation(_) => false,
-        Call::RoutineControl(_, _) => false,
-        Call::RequestDownload(_, _) => true,
-        Call::RequestUpload(_, _) => true,
-        Call::TransferData(_) => false,
-        Call::RequestTransferExit => false,
+    match takes {
+        Takes::Plain(_, _) => false,
+        Takes::Key(_, _) => false,
+        Takes::Memory(_) => true,
+        Takes::Load(_, _) => true,
     }
 }
 
 // The `alfid` form: "address and size as 64-bit numbers, each with a width in bytes, sent high byte first". Other calls take neither.
 pub fn run_alfid(
-    session: Session,
+    session: Timing,
     ask: Ask,
     request: &mut [u8],
     address: u64,
@@ -208,10 +185,12 @@ pub fn run_alfid(
     events: &[u8],
     replies: &[u8],
 ) -> Answered
-    ensures { λ r. ⌜ Called (ask .strict) (settingOf ask session) (callFrom (ask .call) (alfid address «address_width») (alfid size «size_width») (ask .present) (now («data» .entry))) (lentOf (now (request .entry)) (now (events .entry)) (now (replies .entry))) r (now (request .exit)) ⌝ }
+    ensures { λ r. ⌜ Called (ask .strict) (settingOf ask session) (callFrom (ask .call) (alfid address «address_width») (alfid size «size_width») (now («data» .entry))) (lentOf (now (request .entry)) (now (events .entry)) (now (replies .entry))) r (now (request .exit)) ⌝ }
 {
     let call = ask.call;
-    if !takes_memory(call) {
+    let row = row_of(call);
+    let takes = row.takes;
+    if !takes_memory(takes) {
         return run(session, ask, request, b"", b"", data, events, replies);
     }
     let a = wire::memory_bytes(address, address_width);
@@ -248,7 +227,7 @@ pub struct Handed<'r> {
 
 // The call over the session record that the host lends.
 pub fn call<'r>(
-    session: &mut Session,
+    session: &mut Timing,
     ask: Ask,
     request: &mut [u8],
     address: &[u8],
@@ -257,13 +236,66 @@ pub fn call<'r>(
     events: &[u8],
     replies: &'r [u8],
 ) -> Handed<'r>
-    ensures { λ r. ⌜ (Called (ask .strict) (settingOf ask (now (session .entry))) (callOf (ask .call) (now (address .entry)) (now (size .entry)) (ask .present) (now («data» .entry))) (lentOf (now (request .entry)) (now (events .entry)) (now (replies .entry))) (r .answer) (now (request .exit))) × (now (r .bytes) ≡ handedOf (r .answer) (now (replies .entry))) × (now (session .exit) ≡ r .answer .session) ⌝ }
+    ensures { λ r. ⌜ (Called (ask .strict) (settingOf ask (now (session .entry))) (callOf (ask .call) (now (address .entry)) (now (size .entry)) (now («data» .entry))) (lentOf (now (request .entry)) (now (events .entry)) (now (replies .entry))) (r .answer) (now (request .exit))) × (now (r .bytes) ≡ handedOf (r .answer) (now (replies .entry))) × (now (session .exit) ≡ r .answer .timing) ⌝ }
 {
     let a = run(*session, ask, request, address, size, data, events, replies);
     let d = handed_out(a, replies);
-    *session = a.session;
+    *session = a.timing;
     Handed {
         answer: a,
         bytes: d,
     }
+}
+
+// A call in a session that is kept by value, for callers that are proved with no walk: the record is this function's own, and is lent to `call`.
+// The session afterwards is the answer's.
+pub fn in_session(
+    mut session: Timing,
+    ask: Ask,
+    request: &mut [u8],
+    address: &[u8],
+    size: &[u8],
+    data: &[u8],
+    events: &[u8],
+    replies: &[u8],
+) -> Answered
+    ensures { λ answered. ⌜ Called (ask .strict) (settingOf ask session) (callOf (ask .call) (now (address .entry)) (now (size .entry)) (now («data» .entry))) (lentOf (now (request .entry)) (now (events .entry)) (now (replies .entry))) answered (now (request .exit)) ⌝ }
+{
+    let handed = call(
+        &mut session,
+        ask,
+        request,
+        address,
+        size,
+        data,
+        events,
+        replies,
+    );
+    handed.answer
+}
+
+// The data that such a call hands out, with the lifetime of the lent reply bytes; none where its answer is not positive.
+pub fn data_in_session<'r>(
+    mut session: Timing,
+    ask: Ask,
+    request: &mut [u8],
+    address: &[u8],
+    size: &[u8],
+    data: &[u8],
+    events: &[u8],
+    replies: &'r [u8],
+) -> &'r [u8]
+    ensures { λ bytes. ⌜ HandsOut (ask .strict) (settingOf ask session) (callOf (ask .call) (now (address .entry)) (now (size .entry)) (now («data» .entry))) (lentOf (now (request .entry)) (now (events .entry)) (now (replies .entry))) (now bytes) (now (request .exit)) ⌝ }
+{
+    let handed = call(
+        &mut session,
+        ask,
+        request,
+        address,
+        size,
+        data,
+        events,
+        replies,
+    );
+    handed.bytes
 }

@@ -4,7 +4,7 @@ use native.Mathlib.Omega.{arith}
 use mathlib.Core.Bool.{Bool, true, false, _||_}
 use mathlib.Core.List.{List, []}
 use mathlib.Core.Logic.{_≢_}
-use mathlib.Core.Path.{_≡_, refl}
+use mathlib.Core.Path.{_≡_, refl, sym, ap, _∙_}
 use borrow.Author.Tests.{eq-eqb, ne-eqb, eqb-false, lt-ltb, le-ltb}
 use lib.Dec.{eqb}
 use Rattle.rules.specs.After as after
@@ -12,14 +12,20 @@ use Rattle.rules.specs.After.{adopted, timingOf}
 use Rattle.rules.specs.Answers as rules
 use Rattle.rules.specs.Answers.{positive, suppressed, negative, timeout, disconnected, transport, fault, refused, ifPositive}
 use Rattle.rules.specs.Bytes.{value}
-use Rattle.rules.specs.Calls.{Call, numbered}
+use Rattle.rules.specs.Calls.{Call, given, numbered}
+use Rattle.rules.specs.Settings.{Timing}
 use Rattle.exchange.specs.declared.types.Outcome.{Outcome}
 use Rattle.exchange.specs.declared.types.Outcome.the-variants as outcome
 use Rattle.exchange.specs.Meaning.{partOf, outcomeOf}
+use Rattle.requests.specs.declared.Call as requests
+use Rattle.requests.specs.declared.rows.Row.{Row}
+use Rattle.requests.specs.Meaning.{bare}
+use Rattle.requests.specs.Rows.{rowOf}
+use Rattle.requests.proofs.Table.{number-is}
 use Rattle.lengths.specs.declared.Number.the-variants.{Value, Overflow}
 use Rattle.lengths.specs.Numbers.{numberOf}
 use Rattle.lengths.proofs.Values.{told, high}
-use Rattle.checks.specs.Answered.{placeOf, fitting, pair}
+use Rattle.checks.specs.Answered.{placeOf, fitting}
 
 -- The bytes of an outcome's place are a positive's data, and none else.
 pub place-bytes : (l : List ℕ) (o : Outcome) → partOf l (placeOf o) .bytes ≡ ifPositive (outcomeOf l o) (λ p. p .bytes) []
@@ -29,9 +35,7 @@ place-bytes l (outcome.NegativeResponse c) = refl
 place-bytes l outcome.Timeout = refl
 place-bytes l outcome.Disconnected = refl
 place-bytes l (outcome.Transport n) = refl
-place-bytes l (outcome.ProtocolDeviation d) = refl
-place-bytes l outcome.InvalidResponseLength = refl
-place-bytes l outcome.BlockLengthOverflow = refl
+place-bytes l (outcome.Fault f) = refl
 place-bytes l (outcome.Refused n) = refl
 
 -- What comes of a positive's data comes of an outcome's bytes, if no bytes give what no positive gives.
@@ -69,11 +73,15 @@ module _ (c : Call) (o : rules.Outcome) (n : ℕ) (call : n ≡ numbered c) wher
       pub number-over : numberOf (value bytes) ≡ Overflow → 0 ≡ fitting (after.numberOf c o)
       number-over e = rw (value-of, le-ltb (value bytes) (2 ^ 64) (high (value bytes) e))
 
-    pub timing-set : n ≡ 1 → (p2 star : ℕ) → adopted bytes (pair p2 star) ≡ timingOf true c o (pair p2 star)
-    timing-set e p2 star = rw (← call, eq-eqb n 1 e, of-bytes (λ bs. adopted bs (pair p2 star)) o, ← its)
+    pub timing-set : n ≡ 1 → (old : Timing) → adopted bytes old ≡ timingOf true c o old
+    timing-set e old = rw (← call, eq-eqb n 1 e, of-bytes (λ bs. adopted bs old) o, ← its)
 
-  pub timing-kept : n ≢ 1 → (on : Bool) (p2 star : ℕ) → pair p2 star ≡ timingOf on c o (pair p2 star)
-  timing-kept h on p2 star = rw (← call, ne-eqb n 1 h)
+  pub timing-kept : n ≢ 1 → (on : Bool) (old : Timing) → old ≡ timingOf on c o old
+  timing-kept h on old = rw (← call, ne-eqb n 1 h)
 
-  pub timing-off : n ≡ 1 → (p2 star : ℕ) → pair p2 star ≡ timingOf false c o (pair p2 star)
-  timing-off e p2 star = rw (← call, eq-eqb n 1 e)
+  pub timing-off : n ≡ 1 → (old : Timing) → old ≡ timingOf false c o old
+  timing-off e old = rw (← call, eq-eqb n 1 e)
+
+-- A call's number is in its row.
+pub numbered-by : (k : requests.Call) {r : Row} → r ≡ rowOf k → r .number ≡ numbered (bare k)
+numbered-by k e = ap (λ (r : Row). r .number) e ∙ sym (number-is (given []) (given []) [] k)

@@ -1,2 +1,3 @@
 -- What the contracts of `checks` cite beside `rules`.
 pub mod Answered
+pub mod Spans

@@ -1,36 +1,34 @@
 // Where the data that a positive hands out stands in the lent reply bytes.
 use crate::services::length_bytes;
 use crate::services::rest;
-use exchange::checks::head;
+use exchange::judging::head;
 use exchange::types::Place;
-use requests::calls::Call;
+use requests::Call;
 use wire::part;
-ghost use mathlib.Core.Bool.{cond};
 ghost use mathlib.Core.Path.{_≡_};
-ghost use lib.Dec.{eqb};
-ghost use lib.ListN.{length, drop};
-ghost use Rattle.checks.specs.Answered.{HandsOut, Handed};
+ghost use Rattle.checks.specs.Answered.{Handed};
+ghost use Rattle.checks.specs.Spans.{only, spanOf};
 
 // Of a reply, behind its first .0 bytes at most .1 bytes.
 struct Span(usize, usize);
 
 // n bytes, if exactly n follow SID and sub-function, and else none.
 fn only(n: usize, reply: &[u8]) -> usize
-    ensures { λ r. ⌜ r ≡ cond (eqb (length (drop 2 (now (reply .entry)))) n) n 0 ⌝ }
+    ensures { λ r. ⌜ r ≡ only n (now (reply .entry)) ⌝ }
 {
     if rest(reply, 2).len() == n { n } else { 0 }
 }
 
 // "In lenient, call 1 hands out its record only if exactly four bytes follow, call 2 its byte only if exactly one does, call 9 the first four, calls 5 and 6 all after the SID; the others as in the table."
 fn hands_out(call: Call, reply: &[u8]) -> Span
-    ensures { λ r. ⌜ HandsOut call (now (reply .entry)) r ⌝ }
+    ensures { λ r. ⌜ r ≡ spanOf call (now (reply .entry)) ⌝ }
 {
     let all = reply.len();
     match call {
-        Call::Request(_, sub) => Span(head(sub), all),
+        Call::Request(_, sub, _) => Span(head(sub), all),
         Call::DiagnosticSessionControl(_) => Span(2, only(4, reply)),
         Call::EcuReset(_) => Span(2, only(1, reply)),
-        Call::SecurityAccess(sub) => {
+        Call::SecurityAccess(sub, _) => {
             if sub % 2 == 1 {
                 Span(2, all)
             } else {
@@ -43,11 +41,11 @@ fn hands_out(call: Call, reply: &[u8]) -> Span
         Call::ReadDataByIdentifier(_) => Span(3, all),
         Call::WriteDataByIdentifier(_) => Span(3, 0),
         Call::ReadDTCInformation(_) => Span(2, 4),
-        Call::RoutineControl(_, _) => Span(4, all),
+        Call::RoutineControl(_, _, _) => Span(4, all),
         Call::RequestDownload(_, _) => Span(2, length_bytes(reply)),
         Call::RequestUpload(_, _) => Span(2, length_bytes(reply)),
-        Call::TransferData(_) => Span(2, all),
-        Call::RequestTransferExit => Span(1, all),
+        Call::TransferData(_, _) => Span(2, all),
+        Call::RequestTransferExit(_) => Span(1, all),
     }
 }
 

@@ -1,14 +1,14 @@
 // Document 01's checks after a positive reply, in their order; the data handed out, the number of calls 11 and 12, and the session timing of call 1.
 use crate::handed::handed;
 use crate::services::verdict;
-use crate::types::Timing;
-use exchange::checks::outcome_of;
 use exchange::error::Verdict;
 use exchange::types::Outcome;
 use exchange::types::Place;
+use exchange::types::Timing;
 use lengths::Number;
 use lengths::block_length;
-use requests::calls::Call;
+use requests::Call;
+use requests::rows::row_of;
 use wire::part;
 use wire::u16_at;
 ghost use Prim.Native.Nat.{_<_};
@@ -16,13 +16,12 @@ ghost use mathlib.Core.List.{[]};
 ghost use mathlib.Core.Path.{_≡_};
 ghost use Rattle.rules.specs.After.{timingOf, numberOf};
 ghost use Rattle.rules.specs.Answers.{ifPositive};
-ghost use Rattle.rules.specs.Calls as calls;
-ghost use Rattle.exchange.specs.Meaning.{outcomeOf};
-ghost use Rattle.checks.specs.Answered.{Whatever, Checked, placeOf, fitting, timed, pair};
+ghost use Rattle.exchange.specs.Meaning.{outcomeOf, timed};
+ghost use Rattle.requests.specs.Meaning.{bare};
+ghost use Rattle.checks.specs.Answered.{Checked, placeOf, fitting};
 
 mod handed;
 mod services;
-pub mod types;
 
 // The reply at `place` was read as a positive: what its checks say of it, and where the data is that it hands out.
 pub fn check(
@@ -30,16 +29,15 @@ pub fn check(
     call: Call,
     address: &[u8],
     size: &[u8],
-    present: bool,
     replies: &[u8],
     place: Place,
 ) -> Outcome
-    ensures { λ r. ⌜ Checked strict call (now (address .entry)) (now (size .entry)) present (now (replies .entry)) place r ⌝ }
+    ensures { λ r. ⌜ Checked strict call (now (address .entry)) (now (size .entry)) (now (replies .entry)) place r ⌝ }
 {
     let at = place.at;
     let len = place.len;
-    match verdict(strict, call, address, size, present, part(replies, at, len)) {
-        Verdict::Failed(fault) => outcome_of(fault),
+    match verdict(strict, call, address, size, part(replies, at, len)) {
+        Verdict::Failed(fault) => Outcome::Fault(fault),
         Verdict::Passed => Outcome::PositiveResponse(handed(call, replies, place)),
     }
 }
@@ -55,9 +53,7 @@ fn place_of(outcome: Outcome) -> Place
         Outcome::Timeout => Place::NOWHERE,
         Outcome::Disconnected => Place::NOWHERE,
         Outcome::Transport(_) => Place::NOWHERE,
-        Outcome::ProtocolDeviation(_) => Place::NOWHERE,
-        Outcome::InvalidResponseLength => Place::NOWHERE,
-        Outcome::BlockLengthOverflow => Place::NOWHERE,
+        Outcome::Fault(_) => Place::NOWHERE,
         Outcome::Refused(_) => Place::NOWHERE,
     }
 }
@@ -72,34 +68,11 @@ pub fn data<'r>(outcome: Outcome, replies: &'r [u8]) -> &'r [u8]
     part(replies, at, len)
 }
 
-// The number of a call.
-fn numbered(call: Call) -> u8
-    ensures { λ r. ⌜ Whatever call (λ c. r ≡ calls.numbered c) ⌝ }
-{
-    match call {
-        Call::Request(_, _) => 0,
-        Call::DiagnosticSessionControl(_) => 1,
-        Call::EcuReset(_) => 2,
-        Call::SecurityAccess(_) => 3,
-        Call::TesterPresent => 4,
-        Call::ReadMemoryByAddress => 5,
-        Call::WriteMemoryByAddress => 6,
-        Call::ReadDataByIdentifier(_) => 7,
-        Call::WriteDataByIdentifier(_) => 8,
-        Call::ReadDTCInformation(_) => 9,
-        Call::RoutineControl(_, _) => 10,
-        Call::RequestDownload(_, _) => 11,
-        Call::RequestUpload(_, _) => 12,
-        Call::TransferData(_) => 13,
-        Call::RequestTransferExit => 14,
-    }
-}
-
 // "They also return the value as a number". Of data above 2^64 - 1, which `check` never hands out, 0.
 pub fn number(call: Call, outcome: Outcome, replies: &[u8]) -> u64
-    ensures { λ r. ⌜ Whatever call (λ c. r ≡ fitting (numberOf c (outcomeOf (now (replies .entry)) outcome))) ⌝ }
+    ensures { λ r. ⌜ r ≡ fitting (numberOf (bare call) (outcomeOf (now (replies .entry)) outcome)) ⌝ }
 {
-    let n = numbered(call);
+    let n = row_of(call).number;
     if n < 11 {
         return 0;
     }
@@ -124,20 +97,19 @@ pub fn timing(
     call: Call,
     outcome: Outcome,
     replies: &[u8],
-    p2: u32,
-    star: u32,
+    session: Timing,
 ) -> Timing
-    ensures { λ r. ⌜ Whatever call (λ c. timed r ≡ timingOf «server_timing» c (outcomeOf (now (replies .entry)) outcome) (pair p2 star)) ⌝ }
+    ensures { λ r. ⌜ timed r ≡ timingOf «server_timing» (bare call) (outcomeOf (now (replies .entry)) outcome) (timed session) ⌝ }
 {
-    if numbered(call) != 1 {
-        return Timing { p2, star };
+    if row_of(call).number != 1 {
+        return session;
     }
     if !server_timing {
-        return Timing { p2, star };
+        return session;
     }
     let bytes = data(outcome, replies);
     if bytes.len() != 4 {
-        return Timing { p2, star };
+        return session;
     }
     Timing {
         p2: wide32(u16_at(bytes, 0)),

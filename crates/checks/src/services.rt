@@ -1,30 +1,32 @@
 // The checks of each service, strict and lenient: document 01's "Checks after the positive, in order". `reply` is the whole reply.
-use exchange::checks::in_strict;
-use exchange::checks::length_error;
 use exchange::error::Fault;
 use exchange::error::Maximum;
 use exchange::error::ProtocolDeviation;
 use exchange::error::Verdict;
+use exchange::judging::in_strict;
+use exchange::judging::length_error;
 use lengths::Number;
 use lengths::block_length;
 use lengths::record_length_is;
-use requests::calls::Call;
+use requests::Call;
+use requests::Data;
 use wire::byte_at;
 use wire::part;
 use wire::u16_at;
-ghost use Prim.Native.Nat.{ℕ, _≤_, _<_, _^_};
+ghost use Prim.Native.Nat.{_≤_, _<_, _^_};
 ghost use mathlib.Core.Bool.{_&&_};
-ghost use mathlib.Core.List.{List, [], _∷_};
+ghost use mathlib.Core.List.{[], _∷_};
 ghost use mathlib.Core.Option.{none, some};
 ghost use mathlib.Core.Path.{_≡_};
 ghost use lib.Dec.{leb, ltb, eqb};
 ghost use lib.ListN.{length, getD, drop};
-ghost use Rattle.rules.specs.After.{most, bounds, atLeast, strictly, lengthBytes, blockLength, loading, checks};
+ghost use Rattle.rules.specs.After.{most, bounds, atLeast, strictly, transferLength, lengthBytes, blockLength, loading, serviceChecks};
 ghost use Rattle.rules.specs.Answers.{overflow};
 ghost use Rattle.rules.specs.Bytes.{value, u16At, same};
 ghost use Rattle.rules.specs.Calls.{given, readMemory, writeMemory, faultCount, routine};
-ghost use Rattle.rules.specs.Checks.{unless, judge, inStrict};
+ghost use Rattle.rules.specs.InOrder.{unless, judge, inStrict};
 ghost use Rattle.exchange.specs.Meaning.{maximumOf, deviationOf, verdictOf, firstOf};
+ghost use Rattle.requests.specs.Meaning.{dataOf};
 ghost use Rattle.checks.specs.Answered.{asked};
 
 fn wide(b: u8) -> usize
@@ -106,7 +108,7 @@ fn echoed(
 
 // "Call 5 strict: record length other than M, deviation 15; then empty, (2, none)."
 fn read_memory_by_address(strict: bool, size: &[u8], reply: &[u8]) -> Verdict
-    ensures { λ r. ⌜ verdictOf r ≡ firstOf (checks strict (readMemory (given []) (given (now (size .entry)))) (now (reply .entry))) ⌝ }
+    ensures { λ r. ⌜ verdictOf r ≡ firstOf (serviceChecks strict (readMemory (given []) (given (now (size .entry)))) (now (reply .entry))) ⌝ }
 {
     if !in_strict(strict, record_length_is(size, rest(reply, 1).len())) {
         return Verdict::Failed(Fault::ProtocolDeviation(
@@ -122,7 +124,7 @@ fn read_memory_by_address(strict: bool, size: &[u8], reply: &[u8]) -> Verdict
 // "6 (2 + both lengths, same)" .. "6 deviations 12, 13, 14 in that order"
 fn write_memory_by_address(strict: bool, address: &[u8], size: &[u8], reply: &[u8]) -> Verdict
     requires { ⌜ (length (now address) ≤ 15) × (length (now size) ≤ 15) ⌝ }
-    ensures { λ r. ⌜ verdictOf r ≡ firstOf (checks strict (writeMemory (given (now (address .entry))) (given (now (size .entry))) []) (now (reply .entry))) ⌝ }
+    ensures { λ r. ⌜ verdictOf r ≡ firstOf (serviceChecks strict (writeMemory (given (now (address .entry))) (given (now (size .entry))) []) (now (reply .entry))) ⌝ }
 {
     let total = 2 + address.len() + size.len();
     if !in_strict(strict, within(reply.len(), total, Maximum::At(total))) {
@@ -162,7 +164,7 @@ fn identified(strict: bool, minimum: usize, maximum: Maximum, id: u16, reply: &[
 
 // "9 four, strict exactly four, else (6, 6)"
 fn read_dtc_information(strict: bool, reply: &[u8]) -> Verdict
-    ensures { λ r. ⌜ verdictOf r ≡ firstOf (checks strict (faultCount 0) (now (reply .entry))) ⌝ }
+    ensures { λ r. ⌜ verdictOf r ≡ firstOf (serviceChecks strict (faultCount 0) (now (reply .entry))) ⌝ }
 {
     if reply.len() < 6 {
         return Verdict::Failed(length_error(strict, 6, Maximum::At(6)));
@@ -175,7 +177,7 @@ fn read_dtc_information(strict: bool, reply: &[u8]) -> Verdict
 
 // "10 two after the sub-function, else (4, none)" .. "10 deviation 6"
 fn routine_control(strict: bool, id: u16, reply: &[u8]) -> Verdict
-    ensures { λ r. ⌜ verdictOf r ≡ firstOf (checks strict (routine 0 id none) (now (reply .entry))) ⌝ }
+    ensures { λ r. ⌜ verdictOf r ≡ firstOf (serviceChecks strict (routine 0 id none) (now (reply .entry))) ⌝ }
 {
     let repeats = u16_at(reply, 2) == id;
     echoed(
@@ -187,7 +189,7 @@ fn routine_control(strict: bool, id: u16, reply: &[u8]) -> Verdict
     )
 }
 
-// "13 (3 or 2, none)" .. "13 one, else (2, none)" .. "13 deviation 7"
+// "13 one, else (2, none)" .. "13 deviation 7"
 fn transfer_data(strict: bool, minimum: usize, counter: u8, reply: &[u8]) -> Verdict
     ensures { λ r. ⌜ verdictOf r ≡ firstOf (bounds strict minimum none (now (reply .entry)) ∷ atLeast strict 2 (now (reply .entry)) ∷ strictly strict (eqb (getD (now (reply .entry)) 1 0) counter) 7 ∷ []) ⌝ }
 {
@@ -252,21 +254,24 @@ fn request_download_upload(strict: bool, reply: &[u8]) -> Verdict
     loaded(strict, part(reply, 2, n))
 }
 
+// "13 (3 or 2, none)": the least length of a transfer's reply, by whether the request had data.
+fn transfer_length(data: Data) -> usize
+    ensures { λ r. ⌜ r ≡ transferLength (dataOf «data» []) ⌝ }
+{
+    match data {
+        Data::Absent => 3,
+        Data::Present => 2,
+    }
+}
+
 // The checks of a call; of an address or a size the first fifteen bytes count, and no request has more (refusals 2 and 3).
-pub fn verdict(
-    strict: bool,
-    call: Call,
-    address: &[u8],
-    size: &[u8],
-    present: bool,
-    reply: &[u8],
-) -> Verdict
-    ensures { λ r. ⌜ ((d : List ℕ) → verdictOf r ≡ firstOf (checks strict (asked call (now (address .entry)) (now (size .entry)) present d) (now (reply .entry)))) ⌝ }
+pub fn verdict(strict: bool, call: Call, address: &[u8], size: &[u8], reply: &[u8]) -> Verdict
+    ensures { λ r. ⌜ verdictOf r ≡ firstOf (serviceChecks strict (asked call (now (address .entry)) (now (size .entry))) (now (reply .entry))) ⌝ }
 {
     let address = part(address, 0, 15);
     let size = part(size, 0, 15);
     match call {
-        Call::Request(_, _) => Verdict::Passed,
+        Call::Request(_, _, _) => Verdict::Passed,
         Call::DiagnosticSessionControl(_) => validate_response_length(
             strict,
             reply,
@@ -280,7 +285,7 @@ pub fn verdict(
                 validate_response_length(strict, reply, 2, Maximum::At(2))
             }
         }
-        Call::SecurityAccess(sub) => {
+        Call::SecurityAccess(sub, _) => {
             if sub % 2 == 1 {
                 validate_response_length(strict, reply, 3, Maximum::None)
             } else {
@@ -293,16 +298,12 @@ pub fn verdict(
         Call::ReadDataByIdentifier(id) => identified(strict, 4, Maximum::None, id, reply),
         Call::WriteDataByIdentifier(id) => identified(strict, 3, Maximum::At(3), id, reply),
         Call::ReadDTCInformation(_) => read_dtc_information(strict, reply),
-        Call::RoutineControl(_, id) => routine_control(strict, id, reply),
+        Call::RoutineControl(_, id, _) => routine_control(strict, id, reply),
         Call::RequestDownload(_, _) => request_download_upload(strict, reply),
         Call::RequestUpload(_, _) => request_download_upload(strict, reply),
-        Call::TransferData(counter) => {
-            if present {
-                transfer_data(strict, 2, counter, reply)
-            } else {
-                transfer_data(strict, 3, counter, reply)
-            }
+        Call::TransferData(counter, data) => {
+            transfer_data(strict, transfer_length(data), counter, reply)
         }
-        Call::RequestTransferExit => Verdict::Passed,
+        Call::RequestTransferExit(_) => Verdict::Passed,
     }
 }

@@ -1,5 +1,5 @@
 -- Laws of `exchange`: checks in order, entries and their limits, places, counts; and that each public contract has one answer.
-pub mod Judging
+pub mod Verdicts
 pub mod Entries
 pub mod Placing
 pub mod Counting

@@ -2,128 +2,184 @@
 use Prim.Native.Nat.{ℕ, _+_, _-_, _/_, _≤_, _<_}
 use native.Mathlib.Nat.{sub-zero}
 use native.Mathlib.Omega.{arith}
-use mathlib.Core.Bool.{Bool, true, false, and-eq-true-iff}
+use mathlib.Core.Bool.{Bool, true, false, cond, and-eq-true-iff}
 use mathlib.Core.Path.{_≡_, refl, sym, ap, subst, _∙_}
-use mathlib.Core.List.{List, [], _∷_, map}
-use mathlib.Core.Option.{Option}
-use lib.ListN.{length}
+use mathlib.Core.List.{List, [], _∷_, _++_, map}
+use mathlib.Core.Option.{Option, none, some}
+use lib.Dec.{leb}
+use lib.ListN.{length, length-append}
+use Rattle.rules.specs.Answers as answers
 use Rattle.rules.specs.Bytes.{every}
-use Rattle.rules.specs.Calls.{suppresses}
+use Rattle.rules.specs.Events as events
 use Rattle.rules.specs.Events.{Entry, eventOf, entryAt, entriesFrom, entries, sound, withinLimits}
 use Rattle.rules.specs.Exchange as rules
-use Rattle.rules.specs.Exchange.{Asked, settle, silence, under, exchange}
-use Rattle.exchange.specs.declared.Count.{Count}
-use Rattle.exchange.specs.declared.types.RequestTimeout.{RequestTimeout}
-use Rattle.exchange.specs.declared.types.Settled.{Settled}
-use Rattle.exchange.specs.declared.types.Turned.{Turned}
-use Rattle.exchange.specs.declared.types.Turned.the-variants.{Idle, Notice, Ends}
+use Rattle.rules.specs.Exchange.{Asked, state, start, on, ends, turn, settle, silence, under, exchange}
+use Rattle.rules.proofs.Turns.{raised, turn-raised, ReadsOne, turn-reads-one}
 use Rattle.exchange.specs.declared.types.Answer.{Answer}
-use Rattle.exchange.specs.Meaning.{limitOf}
-use Rattle.exchange.specs.Places.{Inside, Placed, Turns, Silent, resume, Answers}
+use Rattle.exchange.specs.declared.types.Outcome.the-variants as outcome
+use Rattle.exchange.specs.declared.types.Settled.{Settled}
+use Rattle.exchange.specs.declared.types.State.{State}
+use Rattle.exchange.specs.declared.types.Turn.{Turn}
+use Rattle.exchange.specs.declared.types.Turn.the-variants.{On, Ends}
+use Rattle.exchange.specs.Counts.{countOf, plus}
 use Rattle.exchange.specs.Guarded.{over}
-use Rattle.exchange.specs.Counts.{countOf, Under}
+use Rattle.exchange.specs.Meaning.{outcomeOf, partOf, answerOf}
+use Rattle.exchange.specs.Places.{Inside, InsideOutcome, beginning, SettlesAs, TurnsTo, Turns, Answers}
+use Rattle.exchange.specs.States.{stateOf, startOf, silenceOf, underOf}
+use Rattle.exchange.proofs.Counting.{count-none, plus-counts}
 use Rattle.exchange.proofs.Entries.{next-entry, beginning-inside, all-sound}
 use Rattle.exchange.proofs.Placing.{whole-inside}
-use Rattle.exchange.proofs.Counting.{count-none}
-use Rattle.exchange.proofs.Turning.{left, settle-none, settle-late, settle-turn}
+use Rattle.exchange.proofs.Turning.{left, settle-none, settle-late, settle-on, settle-ends}
+
+-- A settled exchange of the code is one of `rules`: it means its outcome and reply, and counts its times.
+pub record Stands (overall : Option ℕ) (l : List ℕ) (s : Settled) (x : rules.Settled) : Type 0 where
+  pub means : outcomeOf l (s .outcome) ≡ x .outcome
+  pub time : s .time ≡ x .time
+  pub read : s .read ≡ countOf overall (x .read)
+  pub notices : s .notices ≡ countOf overall (x .notices)
+  pub reply : partOf l (s .reply) ≡ x .reply
+  pub inside : InsideOutcome l (s .outcome)
+  pub placed : Inside l (s .reply)
+
+-- What T leaves of it is what T leaves there.
+pub under-stands : (overall : Option ℕ) {l : List ℕ} {s : Settled} {x : rules.Settled} → Stands overall l s x
+    → Answers l (underOf overall s) (under overall x)
+under-stands none {s = s} {x = x} h = record {
+  means = λ i. answers.answer (h .means i) (h .time i) (h .read i .all) (h .notices i .all) (h .reply i);
+  outcome = h .inside;
+  reply = h .placed;
+}
+under-stands (some overall) {l} {s} {x} h = go (leb (s .time) overall) (ap (λ t. leb t overall) (h .time))
+  where
+    go : (b : Bool) → b ≡ leb (x .time) overall
+        → Answers l (cond b (underOf none s) (record { outcome = outcome.Timeout; time = overall; events = s .read .early; notices = s .notices .early; reply = record { at = 0; len = 0 } }))
+        (cond (leb (x .time) overall) (rules.counted x) (answers.answer answers.timeout overall (events.upTo overall (x .read)) (events.upTo overall (x .notices)) answers.nowhere))
+    go true e = rw (← e) (record {
+      means = λ i. answers.answer (h .means i) (h .time i) (h .read i .all) (h .notices i .all) (h .reply i);
+      outcome = h .inside;
+      reply = h .placed;
+    })
+    go false e = rw (← e) (record {
+      means = λ i. answers.answer answers.timeout overall (h .read i .early) (h .notices i .early) answers.nowhere;
+      outcome = tt;
+      reply = omega arith;
+    })
+
+-- Silence stands for silence.
+pub silence-stands : (overall : Option ℕ) (l : List ℕ) (s : rules.State) → Stands overall l (silenceOf (stateOf overall s)) (silence s)
+silence-stands overall l s = go (s .hush)
+  where
+    go : (b : Bool) → let s′ = state b (s .deadline) (s .read) (s .notices) in Stands overall l (silenceOf (stateOf overall s′)) (silence s′)
+    go true = record { means = refl; time = refl; read = refl; notices = refl; reply = refl; inside = tt; placed = omega arith }
+    go false = record { means = refl; time = refl; read = refl; notices = refl; reply = refl; inside = tt; placed = omega arith }
 
 -- The exchange over all events of the list.
 abbrev pub begun : Bool → Asked → List ℕ → List ℕ → rules.Settled
-begun m a l r = settle m a (map (eventOf r) (entries l)) (suppresses (a .sub)) (a .p2) [] []
+begun strict a l r = settle strict a (map (eventOf r) (entries l)) (start a)
 
--- At event i: times that the counts stand for, and that the exchange over what is left is the exchange over all.
-pub record Held (m : Bool) (a : Asked) (limit : Option ℕ) (l r : List ℕ) (n i : ℕ) (hush : Bool) (d : ℕ) (read notices : Count) : Type 0 where
-  pub es : List ℕ
-  pub ns : List ℕ
+-- At event i: a state of `rules` that the code's stands for, from which the exchange over what is left is the exchange over all.
+pub record Held (strict : Bool) (a : Asked) (overall : Option ℕ) (l r : List ℕ) (n i : ℕ) (now : State) : Type 0 where
+  pub at : rules.State
   pub small : i ≤ n
-  pub passed : length es ≡ i
-  pub fewer : length ns ≤ i
-  pub events : read ≡ countOf limit es
-  pub notes : notices ≡ countOf limit ns
+  pub passed : length (at .read) ≡ i
+  pub fewer : length (at .notices) ≤ i
+  pub stands : now ≡ stateOf overall at
   pub sound : every (sound r) (entriesFrom l (n - i) i) ≡ true
-  pub same : settle m a (left r l n i) hush d es ns ≡ begun m a l r
+  pub same : settle strict a (left r l n i) at ≡ begun strict a l r
 
-module _ {m : Bool} {a : Asked} (timeout : RequestTimeout) {l r : List ℕ} where
-  pub held-first : withinLimits l r ≡ true → {hush : Bool} → hush ≡ suppresses (a .sub)
-      → Held m a (limitOf timeout) l r (length l / 10) 0 hush (a .p2) (record { all = 0; early = 0 }) (record { all = 0; early = 0 })
+started : (a : Asked) (overall : Option ℕ) → startOf a ≡ stateOf overall (start a)
+started a none = refl
+started a (some overall) = refl
+
+module _ {strict : Bool} {a : Asked} (overall : Option ℕ) {l r : List ℕ} where
+  pub held-first : withinLimits l r ≡ true → {now : State} → now ≡ startOf a → Held strict a overall l r (length l / 10) 0 now
   held-first h e = record {
-    es = [];
-    ns = [];
+    at = start a;
     small = omega arith;
     passed = refl;
     fewer = omega arith;
-    events = rw (count-none (limitOf timeout));
-    notes = rw (count-none (limitOf timeout));
+    stands = e ∙ started a overall;
     sound = rw sub-zero (all-sound l r h);
-    same = rw (sub-zero, e);
+    same = rw sub-zero;
   }
 
-  module _ {n i : ℕ} {hush : Bool} {d : ℕ} {read notices : Count} (at : Held m a (limitOf timeout) l r n i hush d read notices) where
+  module _ {n i : ℕ} {now : State} (held : Held strict a overall l r n i now) where
     -- Silence: its answer is the exchange's.
-    silent : {s : Settled} {v : Answer} → Silent hush d s → Under timeout s read notices v → silence hush d (at .es) (at .ns) ≡ begun m a l r
-        → Answers r v (over m a (limitOf timeout) l r)
+    silent : {s : Settled} {v : Answer} → s ≡ silenceOf now → v ≡ underOf overall s → silence (held .at) ≡ begun strict a l r
+        → Answers r v (over strict a overall l r)
     unfolding exchange
-    silent {s} {v} quiet u e =
-        let places = quiet .placed r in
-        subst (λ (x : rules.Settled). Answers r v (under (limitOf timeout) x))
-        (quiet .means r (at .es) (at .ns) ∙ e)
-        (u r (at .es) (at .ns) (at .events) (at .notes) (places .outcome)
-        (whole-inside r (s .reply .at) (s .reply .len) (places .whole) (omega arith)))
+    silent quiet u e =
+        rw (u, quiet, held .stands) (subst (λ (x : rules.Settled). Answers r (underOf overall (silenceOf (stateOf overall (held .at)))) (under overall x)) e
+        (under-stands overall (silence-stands overall r (held .at))))
 
-    pub no-more : {s : Settled} {v : Answer} → Silent hush d s → Under timeout s read notices v → n ≤ i → Answers r v (over m a (limitOf timeout) l r)
-    no-more quiet u h = silent quiet u (sym (settle-none m a r l n i hush d (at .es) (at .ns) h) ∙ at .same)
+    pub no-more : {s : Settled} {v : Answer} → s ≡ silenceOf now → v ≡ underOf overall s → n ≤ i → Answers r v (over strict a overall l r)
+    no-more quiet u h = silent quiet u (sym (settle-none strict a r l n i (held .at) h) ∙ held .same)
 
     module _ {e : Entry} (here : e ≡ entryAt l i) (more : i < n) where
-      pub too-late : {s : Settled} {v : Answer} → Silent hush d s → Under timeout s read notices v → d < e .time
-          → Answers r v (over m a (limitOf timeout) l r)
-      too-late quiet u h = silent quiet u (sym (settle-late m a r l n i hush d (at .es) (at .ns) e here more h) ∙ at .same)
+      pub too-late : {s : Settled} {v : Answer} → s ≡ silenceOf now → v ≡ underOf overall s → now .deadline < e .time
+          → Answers r v (over strict a overall l r)
+      too-late quiet u h =
+          silent quiet u (sym (settle-late strict a r l n i (held .at) e here more (rw (ap (λ s. s .deadline) (held .stands)) at h)) ∙ held .same)
 
       rest-sound : (sound r e ≡ true) × (every (sound r) (entriesFrom l (n - (i + 1)) (i + 1)) ≡ true)
-      rest-sound = and-eq-true-iff (sound r e) _ .0 (rw (next-entry l n i e here more) at (at .sound))
+      rest-sound = and-eq-true-iff (sound r e) _ .0 (rw (next-entry l n i e here more) at (held .sound))
 
-      module _ {x : Turned} (turns : Turns m a hush e r x) (early : e .time ≤ d) {read′ : Count}
-          (more-read : (ts : List ℕ) → read ≡ countOf (limitOf timeout) ts → read′ ≡ countOf (limitOf timeout) (e .time ∷ ts)) where
-        went : (t : Turned) → x ≡ t → resume r (settle m a (left r l n (i + 1))) (e .time) hush d (at .es) (at .ns) t ≡ begun m a l r
-        went t p =
-            ap (resume r (settle m a (left r l n (i + 1))) (e .time) hush d (at .es) (at .ns)) (sym p) ∙
-            sym (settle-turn m a r l n i hush d (at .es) (at .ns) e here more early x turns) ∙
-            at .same
+      module _ {x : Turn} (turns : Turns strict a overall now e r x) (early : e .time ≤ now .deadline) (room : n ≤ 18446744073709551615) where
+        -- The turn from the state where nothing was read, and the turn that is taken.
+        abbrev bare : rules.Turn
+        bare = turn strict a (state (held .at .hush) (held .at .deadline) [] []) (eventOf r e)
 
-        pub after-idle : x ≡ Idle → Held m a (limitOf timeout) l r n (i + 1) hush d read′ notices
-        after-idle p = record {
-          es = e .time ∷ at .es;
-          ns = at .ns;
-          small = omega arith;
-          passed = omega (arith, at .passed);
-          fewer = omega (arith, at .fewer);
-          events = more-read (at .es) (at .events);
-          notes = at .notes;
-          sound = rest-sound .1;
-          same = went Idle p;
-        }
+        turned : (z : rules.Turn) → bare ≡ z → turn strict a (held .at) (eventOf r e) ≡ raised (held .at .read) (held .at .notices) z
+        turned z p = turn-raised strict a (held .at) (eventOf r e) ∙ ap (raised (held .at .read) (held .at .notices)) p
 
-        pub after-notice : {next : ℕ} {notices′ : Count} → x ≡ Notice next
-            → ((ts : List ℕ) → notices ≡ countOf (limitOf timeout) ts → notices′ ≡ countOf (limitOf timeout) (e .time ∷ ts))
-            → Held m a (limitOf timeout) l r n (i + 1) false next read′ notices′
-        after-notice {next} p more-notices = record {
-          es = e .time ∷ at .es;
-          ns = e .time ∷ at .ns;
-          small = omega arith;
-          passed = omega (arith, at .passed);
-          fewer = omega (arith, at .fewer);
-          events = more-read (at .es) (at .events);
-          notes = more-notices (at .ns) (at .notes);
-          sound = rest-sound .1;
-          same = went (Notice next) p;
-        }
+        in-time : e .time ≤ held .at .deadline
+        in-time = rw (ap (λ s. s .deadline) (held .stands)) at early
 
-        pub ends : {s : Settled} {v : Answer} → x ≡ Ends s → Under timeout s read′ notices v → Answers r v (over m a (limitOf timeout) l r)
+        taken : (y : Turn) → x ≡ y → TurnsTo overall r (beginning e) (stateOf overall (held .at)) y bare
+        taken y p =
+            subst (λ (w : Turn). TurnsTo overall r (beginning e) (stateOf overall (held .at)) w bare) p
+            (subst (λ (s : State). Turns strict a overall s e r x) (held .stands) turns .means)
+
+        -- What the code counts behind the event is what `rules` keeps there.
+        counts : (ts us : List ℕ) → length ts ≤ 1 → length us ≤ i → plus overall ts (countOf overall us) ≡ countOf overall (ts ++ us)
+        counts ts us h k = plus-counts overall ts us (omega (arith, more, room))
+
+        pub after-on : {s : State} → x ≡ On s → Held strict a overall l r n (i + 1) s
+        after-on {s} p = go bare refl (turn-reads-one strict a (held .at .hush) (held .at .deadline) (eventOf r e)) (taken (On s) p)
+          where
+            go : (z : rules.Turn) → bare ≡ z → ReadsOne z → TurnsTo overall r (beginning e) (stateOf overall (held .at)) (On s) z
+                → Held strict a overall l r n (i + 1) s
+            go (on y) q one t = record {
+              at = state (y .hush) (y .deadline) (y .read ++ held .at .read) (y .notices ++ held .at .notices);
+              small = omega (arith, more);
+              passed = omega (arith, length-append (y .read) (held .at .read), held .passed, one .0);
+              fewer = omega (arith, length-append (y .notices) (held .at .notices), held .fewer, one .1);
+              stands = t ∙
+                  rw (
+                    counts (y .read) (held .at .read) (omega (arith, one .0)) (omega (arith, held .passed)),
+                    counts (y .notices) (held .at .notices) (one .1) (held .fewer),
+                  );
+              sound = rest-sound .1;
+              same = sym (settle-on strict a r l n i (held .at) e here more _ in-time (turned (on y) q)) ∙ held .same;
+            }
+            go (ends y) q one t = absurd t
+
+        pub ends-it : {s : Settled} {v : Answer} → x ≡ Ends s → v ≡ underOf overall s → Answers r v (over strict a overall l r)
         unfolding exchange
-        ends {s} {v} p u =
-            let places : Placed r _ s = rw p at (turns .placed) in
-            let begins = beginning-inside r e (rest-sound .0) in
-            let inside : Inside r (s .reply) = whole-inside r (s .reply .at) (s .reply .len) (places .whole)
-            (omega (arith, places .starts, begins)) in
-            subst (λ (z : rules.Settled). Answers r v (under (limitOf timeout) z))
-            (went (Ends s) p)
-            (u r (e .time ∷ at .es) (at .ns) (more-read (at .es) (at .events)) (at .notes) (places .outcome) inside)
+        ends-it {s} {v} p u = go bare refl (turn-reads-one strict a (held .at .hush) (held .at .deadline) (eventOf r e)) (taken (Ends s) p)
+          where
+            go : (z : rules.Turn) → bare ≡ z → ReadsOne z → TurnsTo overall r (beginning e) (stateOf overall (held .at)) (Ends s) z
+                → Answers r v (under overall (begun strict a l r))
+            go (on y) q one t = absurd t
+            go (ends y) q one t =
+                rw u (subst (λ (w : rules.Settled). Answers r (underOf overall s) (under overall w))
+                (sym (settle-ends strict a r l n i (held .at) e here more _ in-time (turned (ends y) q)) ∙ held .same)
+                (under-stands overall (record {
+                  means = t .means;
+                  time = t .time;
+                  read = t .read ∙ counts (y .read) (held .at .read) (omega (arith, one .0)) (omega (arith, held .passed));
+                  notices = t .notices ∙ counts (y .notices) (held .at .notices) (one .1) (held .fewer);
+                  reply = t .reply;
+                  inside = t .inside;
+                  placed = whole-inside r (s .reply .at) (s .reply .len) (t .whole) (omega (arith, t .starts, beginning-inside r e (rest-sound .0)));
+                })))

@@ -1,85 +1,108 @@
 -- One event's turn, and the exchange over the events that are left.
 use Prim.Native.Nat.{ℕ, _+_, _-_, _≤_, _<_}
 use native.Mathlib.Omega.{arith}
-use mathlib.Core.Bool.{Bool}
+use mathlib.Core.Bool.{Bool, false}
 use mathlib.Core.Logic.{_≢_}
 use mathlib.Core.Path.{_≡_, refl, sym, ap, _∙_}
-use mathlib.Core.List.{List, map}
+use mathlib.Core.List.{List, [], _∷_, map}
+use mathlib.Core.Option.{Option}
 use borrow.Author.Tests.{le-leb, lt-leb, eq-eqb, ne-eqb}
 use Rattle.rules.specs.Events as events
 use Rattle.rules.specs.Events.{Entry, eventOf, named, entryAt, entriesFrom}
-use Rattle.rules.specs.Exchange.{Asked, look, finish, silence, settle}
+use Rattle.rules.specs.Exchange as rules
+use Rattle.rules.specs.Exchange.{Asked, look, finish, on, ends, turn, silence, settle}
+use Rattle.rules.proofs.Turns as law
 use Rattle.exchange.specs.declared.types.Place.{Place}
 use Rattle.exchange.specs.declared.types.Outcome.{Outcome}
+use Rattle.exchange.specs.declared.types.Outcome.the-variants as outcome
 use Rattle.exchange.specs.declared.types.Outcome.the-variants.{Disconnected, Transport}
 use Rattle.exchange.specs.declared.types.Step.{Step}
 use Rattle.exchange.specs.declared.types.Step.the-variants.{Pending, Settles}
-use Rattle.exchange.specs.declared.types.Turned.{Turned}
-use Rattle.exchange.specs.declared.types.Turned.the-variants.{Idle, Notice, Ends}
+use Rattle.exchange.specs.declared.types.Count.{Count}
+use Rattle.exchange.specs.declared.types.State.{State}
+use Rattle.exchange.specs.declared.types.Turn.the-variants.{On, Ends}
+use Rattle.exchange.specs.Counts.{counted}
+use Rattle.exchange.specs.States.{noPlace}
 use Rattle.exchange.specs.Meaning.{outcomeOf, stepOf, partOf}
-use Rattle.exchange.specs.Places.{Looked, Named, Turns, resume}
+use Rattle.exchange.specs.Places.{Looked, Named, Turns}
 use Rattle.exchange.proofs.Entries.{next-entry, no-entry, time-of}
 
 -- The reply that an event names is judged as the part at its place is.
-seen-as : (m : Bool) (a : Asked) (hush : Bool) {e : Entry} {l : List ℕ} {p : Place} {s : Step} → Named l e p → Looked l s (look m a hush (partOf l p))
-    → look m a hush (named l e) ≡ stepOf l s
-seen-as m a hush place seen = ap (look m a hush) (sym (place .means)) ∙ sym (seen .means)
+seen-as : (strict : Bool) (a : Asked) (hush : Bool) {e : Entry} {l : List ℕ} {p : Place} {s : Step} → Named l e p
+    → Looked l s (look strict a hush (partOf l p)) → look strict a hush (named l e) ≡ stepOf l s
+seen-as strict a hush place seen = ap (look strict a hush) (sym (place .means)) ∙ sym (seen .means)
 
-module _ {m : Bool} {a : Asked} {hush : Bool} {e : Entry} {l : List ℕ} where
-  module _ (kind : e .kind ≡ 0) {p : Place} (place : Named l e p) {s : Step} (seen : Looked l s (look m a hush (partOf l p))) where
-    pub turns-notice : s ≡ Pending → Turns m a hush e l (Notice (e .time + a .star))
-    turns-notice h = record {
-      means = λ on d es ns. rw (eq-eqb (e .kind) 0 kind, seen-as m a hush place seen, h);
-      placed = tt;
-    }
+-- An outcome waits or not wherever its data stands.
+pub finish-anywhere : (a : Asked) (l : List ℕ) (o : Outcome) (t : ℕ) → finish a (outcomeOf [] o) t ≡ finish a (outcomeOf l o) t
+finish-anywhere a l (outcome.PositiveResponse p) t = refl
+finish-anywhere a l outcome.Suppressed t = refl
+finish-anywhere a l (outcome.NegativeResponse c) t = refl
+finish-anywhere a l outcome.Timeout t = refl
+finish-anywhere a l outcome.Disconnected t = refl
+finish-anywhere a l (outcome.Transport n) t = refl
+finish-anywhere a l (outcome.Fault f) t = refl
+finish-anywhere a l (outcome.Refused n) t = refl
 
-    pub turns-reply : {o : Outcome} {t : ℕ} → s ≡ Settles o → t ≡ finish a (outcomeOf l o) (e .time)
-        → Turns m a hush e l (Ends (record { outcome = o; time = t; reply = p }))
-    turns-reply h f = record {
-      means = λ on d es ns. rw (eq-eqb (e .kind) 0 kind, seen-as m a hush place seen, h, f, ← (place .means));
-      placed = record {
-        outcome = rw h at (seen .inside);
+module _ {strict : Bool} {a : Asked} {overall : Option ℕ} {before : State} {e : Entry} {l : List ℕ} {read : Count}
+    (counts : read ≡ counted overall (e .time) (before .read)) where
+  module _ (kind : e .kind ≡ 0) {p : Place} (place : Named l e p) {s : Step} (seen : Looked l s (look strict a (before .hush) (partOf l p))) where
+    pub turns-notice : {notices : Count} → s ≡ Pending → notices ≡ counted overall (e .time) (before .notices)
+        → Turns strict a overall before e l (On (record { hush = false; deadline = e .time + a .timing .star; read = read; notices = notices }))
+    turns-notice h n = record { means = rw (eq-eqb (e .kind) 0 kind, seen-as strict a (before .hush) place seen, h, counts, n) }
+
+    pub turns-reply : {o : Outcome} {t : ℕ} → s ≡ Settles o → t ≡ finish a (outcomeOf [] o) (e .time)
+        → Turns strict a overall before e l (Ends (record { outcome = o; time = t; read = read; notices = before .notices; reply = p }))
+    turns-reply {o} {t} h f = record {
+      means = rw (eq-eqb (e .kind) 0 kind, seen-as strict a (before .hush) place seen, h) (record {
+        means = refl;
+        time = f ∙ finish-anywhere a l o (e .time);
+        read = counts;
+        notices = refl;
+        reply = place .means;
+        inside = rw h at (seen .inside);
         whole = place .whole;
-        starts = rw (eq-eqb (e .kind) 0 kind)
-            (omega (arith, ap (λ x. x .at) (place .means)));
-      };
+        starts = omega (arith, ap (λ x. x .at) (place .means));
+      });
     }
 
+  -- An end or an error names no reply.
   module _ (other : e .kind ≢ 0) where
-    pub turns-idle : e .kind ≡ 1 → Turns m a hush e l Idle
-    turns-idle h = record { means = λ on d es ns. rw (ne-eqb (e .kind) 0 other, eq-eqb (e .kind) 1 h); placed = tt }
+    pub turns-idle : e .kind ≡ 1
+        → Turns strict a overall before e l (On (record { hush = before .hush; deadline = before .deadline; read = read; notices = before .notices }))
+    turns-idle h = record { means = rw (ne-eqb (e .kind) 0 other, eq-eqb (e .kind) 1 h, counts) }
 
     module _ (no-idle : e .kind ≢ 1) where
       pub turns-ended : e .kind ≡ 2
-          → Turns m a hush e l (Ends (record { outcome = Disconnected; time = e .time; reply = record { at = 0; len = 0 } }))
+          → Turns strict a overall before e l (Ends (record { outcome = Disconnected; time = e .time; read = read; notices = before .notices; reply = noPlace }))
       turns-ended h = record {
-        means = λ on d es ns. rw (ne-eqb (e .kind) 0 other, ne-eqb (e .kind) 1 no-idle, eq-eqb (e .kind) 2 h);
-        placed = record { outcome = tt; whole = refl; starts = omega arith };
+        means = rw (ne-eqb (e .kind) 0 other, ne-eqb (e .kind) 1 no-idle, eq-eqb (e .kind) 2 h)
+            (record { means = refl; time = refl; read = counts; notices = refl; reply = refl; inside = tt; whole = refl; starts = omega arith });
       }
 
       pub turns-failed : e .kind ≢ 2
-          → Turns m a hush e l (Ends (record { outcome = Transport (e .size); time = e .time; reply = record { at = 0; len = 0 } }))
+          → Turns strict a overall before e l (Ends (record { outcome = Transport (e .size); time = e .time; read = read; notices = before .notices; reply = noPlace }))
       turns-failed h = record {
-        means = λ on d es ns. rw (ne-eqb (e .kind) 0 other, ne-eqb (e .kind) 1 no-idle, ne-eqb (e .kind) 2 h);
-        placed = record { outcome = tt; whole = refl; starts = omega arith };
+        means = rw (ne-eqb (e .kind) 0 other, ne-eqb (e .kind) 1 no-idle, ne-eqb (e .kind) 2 h)
+            (record { means = refl; time = refl; read = counts; notices = refl; reply = refl; inside = tt; whole = refl; starts = omega arith });
       }
 
 -- The events that are left from number i on, of n.
 abbrev pub left : List ℕ → List ℕ → ℕ → ℕ → List events.Event
 left r l n i = map (eventOf r) (entriesFrom l (n - i) i)
 
-module _ (m : Bool) (a : Asked) (r l : List ℕ) (n i : ℕ) (hush : Bool) (d : ℕ) (es ns : List ℕ) where
-  pub settle-none : n ≤ i → settle m a (left r l n i) hush d es ns ≡ silence hush d es ns
-  unfolding settle
-  settle-none h = rw (no-entry l n i h)
+module _ (strict : Bool) (a : Asked) (r l : List ℕ) (n i : ℕ) (s : rules.State) where
+  pub settle-none : n ≤ i → settle strict a (left r l n i) s ≡ silence s
+  settle-none h = rw (no-entry l n i h) (law.settle-late strict a s [] tt)
 
   module _ (e : Entry) (here : e ≡ entryAt l i) (more : i < n) where
-    pub settle-late : d < e .time → settle m a (left r l n i) hush d es ns ≡ silence hush d es ns
-    unfolding settle
-    settle-late h = rw (next-entry l n i e here more, time-of r e, lt-leb (e .time) d h)
+    in-time : {d : ℕ} → e .time ≤ d → events.timeOf (eventOf r e) ≤ d
+    in-time h = rw (time-of r e) h
 
-    pub settle-turn : e .time ≤ d → (t : Turned) → Turns m a hush e r t
-        → settle m a (left r l n i) hush d es ns ≡ resume r (settle m a (left r l n (i + 1))) (e .time) hush d es ns t
-    unfolding settle
-    settle-turn h t turns = rw (next-entry l n i e here more, time-of r e, le-leb (e .time) d h)
-        (turns .means (settle m a (left r l n (i + 1))) d es ns)
+    pub settle-late : s .deadline < e .time → settle strict a (left r l n i) s ≡ silence s
+    settle-late h = rw (next-entry l n i e here more) (law.settle-late strict a s (eventOf r e ∷ left r l n (i + 1)) (rw (time-of r e) h))
+
+    pub settle-on : (s′ : rules.State) → e .time ≤ s .deadline → turn strict a s (eventOf r e) ≡ on s′ → settle strict a (left r l n i) s ≡ settle strict a (left r l n (i + 1)) s′
+    settle-on s′ h t = rw (next-entry l n i e here more) (law.settle-on strict a s s′ (eventOf r e) (left r l n (i + 1)) (in-time h) t)
+
+    pub settle-ends : (x : rules.Settled) → e .time ≤ s .deadline → turn strict a s (eventOf r e) ≡ ends x → settle strict a (left r l n i) s ≡ x
+    settle-ends x h t = rw (next-entry l n i e here more) (law.settle-ends strict a s x (eventOf r e) (left r l n (i + 1)) (in-time h) t)

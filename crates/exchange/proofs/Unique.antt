@@ -11,7 +11,6 @@ use Rattle.rules.specs.Answers as rules
 use Rattle.rules.specs.Answers.{Part, nowhere, deviation, deviation8, badLength, overflow, positive, suppressed, negative, timeout, disconnected, transport, fault, refused}
 use Rattle.rules.specs.Events.{Entry}
 use Rattle.rules.specs.Exchange as exchange
-use Rattle.rules.specs.Exchange.{settled}
 use Rattle.exchange.specs.declared.error.Maximum.{Maximum}
 use Rattle.exchange.specs.declared.error.Maximum.the-variants as maximum
 use Rattle.exchange.specs.declared.error.ProtocolDeviation.{ProtocolDeviation}
@@ -25,11 +24,12 @@ use Rattle.exchange.specs.declared.types.Outcome.the-variants as outcome
 use Rattle.exchange.specs.declared.types.Step.{Step}
 use Rattle.exchange.specs.declared.types.Step.the-variants.{Pending, Settles}
 use Rattle.exchange.specs.declared.types.Settled.{Settled}
-use Rattle.exchange.specs.declared.types.Turned.{Turned}
-use Rattle.exchange.specs.declared.types.Turned.the-variants.{Idle, Notice, Ends}
+use Rattle.exchange.specs.declared.types.State.{State}
+use Rattle.exchange.specs.declared.types.Turn.{Turn}
+use Rattle.exchange.specs.declared.types.Turn.the-variants.{On, Ends}
 use Rattle.exchange.specs.declared.types.Answer.{Answer}
-use Rattle.exchange.specs.Meaning.{maximumOf, deviationOf, faultOf, faulted, partOf, outcomeOf, stepOf, answerOf, entryOf}
-use Rattle.exchange.specs.Places.{Inside, InsideOutcome, InsideStep, Looked, Answers, Named, Placed, PlacedTurn, resume, Turns}
+use Rattle.exchange.specs.Meaning.{maximumOf, deviationOf, faultOf, partOf, outcomeOf, stepOf, answerOf, entryOf}
+use Rattle.exchange.specs.Places.{Inside, InsideOutcome, InsideStep, Looked, Answers, Named, SettlesAs, TurnsTo, Turns}
 
 abbrev maximumFrom : Option ℕ → Maximum
 maximumFrom none = maximum.None
@@ -71,7 +71,7 @@ outcomeFrom (negative c) = outcome.NegativeResponse c
 outcomeFrom timeout = outcome.Timeout
 outcomeFrom disconnected = outcome.Disconnected
 outcomeFrom (transport n) = outcome.Transport n
-outcomeFrom (fault f) = faulted (faultFrom f)
+outcomeFrom (fault f) = outcome.Fault (faultFrom f)
 outcomeFrom (refused n) = outcome.Refused n
 
 abbrev pub stepFrom : exchange.Step → Step
@@ -121,9 +121,6 @@ fault-unique f g e = sym (fault-back f) ∙ ap faultFrom e ∙ fault-back g
 pub event-unique : (e f : Event) → entryOf e ≡ entryOf f → e ≡ f
 event-unique e f h = ap (λ (x : Entry). record { time = x .time; kind = x .kind; offset = x .offset; size = x .size }) h
 
-different : {o : rules.Outcome} → refused 1 ≡ o → refused 2 ≡ o → ⊥
-different e f = let z : _≡_ {A = ℕ} 1 2 = cc in omega arith
-
 module _ (l : List ℕ) where
   place-back : (p : Place) → length (partOf l p .bytes) ≡ p .len → placeFrom (partOf l p) ≡ p
   place-back p h = ap (λ (n : ℕ). record { at = p .at; len = n }) h
@@ -138,9 +135,7 @@ module _ (l : List ℕ) where
   outcome-back outcome.Timeout h = refl
   outcome-back outcome.Disconnected h = refl
   outcome-back (outcome.Transport n) h = refl
-  outcome-back (outcome.ProtocolDeviation d) h = ap faulted (deviation-back d)
-  outcome-back outcome.InvalidResponseLength h = refl
-  outcome-back outcome.BlockLengthOverflow h = refl
+  outcome-back (outcome.Fault f) h = ap outcome.Fault (fault-back f)
   outcome-back (outcome.Refused n) h = refl
 
   step-back : (s : Step) → InsideStep l s → stepFrom (stepOf l s) ≡ s
@@ -171,40 +166,23 @@ module _ (l : List ℕ) where
   pub answers-unique : {r s : Answer} {x : rules.Answer} → Answers l r x → Answers l s x → r ≡ s
   answers-unique h k = answers-gives h ∙ sym (answers-gives k)
 
-  -- `turn`: what follows an event may be anything, so two things that follow tell the cases apart.
-  abbrev probe : ℕ → Bool → ℕ → List ℕ → List ℕ → exchange.Settled
-  probe n hush d es ns = settled (refused n) d es ns nowhere
+  -- `turn`
+  settles-unique : {overall : Option ℕ} {begins : ℕ} {before : State} {s t : Settled} {x : exchange.Settled} → SettlesAs overall l begins before s x → SettlesAs overall l begins before t x → s ≡ t
+  settles-unique {s = s} {t = t} h k =
+      let outcomes : s .outcome ≡ t .outcome = sym (outcome-back (s .outcome) (h .inside)) ∙ ap outcomeFrom (h .means ∙ sym (k .means)) ∙ outcome-back (t .outcome) (k .inside) in
+      let times : s .time ≡ t .time = h .time ∙ sym (k .time) in
+      let reads : s .read ≡ t .read = h .read ∙ sym (k .read) in
+      let notes : s .notices ≡ t .notices = h .notices ∙ sym (k .notices) in
+      let replies : s .reply ≡ t .reply = sym (place-back (s .reply) (h .whole)) ∙ ap placeFrom (h .reply ∙ sym (k .reply)) ∙ place-back (t .reply) (k .whole) in
+      λ i. record { outcome = outcomes i; time = times i; read = reads i; notices = notes i; reply = replies i }
 
-  abbrev tried : ℕ → Bool → ℕ → Turned → exchange.Settled
-  tried n hush t x = resume l (probe n) t hush 0 [] [] x
+  turns-to-unique : (overall : Option ℕ) (begins : ℕ) (before : State) (x y : Turn) (z : exchange.Turn) → TurnsTo overall l begins before x z → TurnsTo overall l begins before y z → x ≡ y
+  turns-to-unique overall begins before (On s) (On t) (exchange.on z) h k = ap On (h ∙ sym k)
+  turns-to-unique overall begins before (Ends s) (Ends t) (exchange.ends z) h k = ap Ends (settles-unique h k)
+  turns-to-unique overall begins before (On s) y (exchange.ends z) h k = absurd h
+  turns-to-unique overall begins before (Ends s) y (exchange.on z) h k = absurd h
+  turns-to-unique overall begins before (On s) (Ends t) (exchange.on z) h k = absurd k
+  turns-to-unique overall begins before (Ends s) (On t) (exchange.ends z) h k = absurd k
 
-  settled-back : (begins : ℕ) (s : Settled) → Placed l begins s
-      → record { outcome = outcomeFrom (outcomeOf l (s .outcome)); time = s .time; reply = placeFrom (partOf l (s .reply)) } ≡ s
-  settled-back begins s h =
-      let outcomes = outcome-back (s .outcome) (h .outcome) in
-      let replies = place-back (s .reply) (h .whole) in
-      λ i. record { outcome = outcomes i; time = s .time; reply = replies i }
-
-  tells : (hush : Bool) (t begins : ℕ) (x y : Turned) → PlacedTurn l begins x → PlacedTurn l begins y → tried 1 hush t x ≡ tried 1 hush t y
-      → tried 2 hush t x ≡ tried 2 hush t y → x ≡ y
-  tells hush t begins Idle Idle p q e f = refl
-  tells hush t begins Idle (Notice next) p q e f = absurd (omega (arith, ap (λ (s : exchange.Settled). length (s .notices)) e))
-  tells hush t begins Idle (Ends s) p q e f = absurd
-      (different (ap (λ (s : exchange.Settled). s .outcome) e) (ap (λ (s : exchange.Settled). s .outcome) f))
-  tells hush t begins (Notice next) Idle p q e f = absurd (omega (arith, ap (λ (s : exchange.Settled). length (s .notices)) e))
-  tells hush t begins (Notice next) (Notice next′) p q e f = ap Notice (ap (λ (s : exchange.Settled). s .time) e)
-  tells hush t begins (Notice next) (Ends s) p q e f = absurd (omega (arith, ap (λ (s : exchange.Settled). length (s .notices)) e))
-  tells hush t begins (Ends s) Idle p q e f = absurd
-      (different (sym (ap (λ (s : exchange.Settled). s .outcome) e)) (sym (ap (λ (s : exchange.Settled). s .outcome) f)))
-  tells hush t begins (Ends s) (Notice next) p q e f = absurd (omega (arith, ap (λ (s : exchange.Settled). length (s .notices)) e))
-  tells hush t begins (Ends s) (Ends s′) p q e f =
-      ap Ends
-      (sym (settled-back begins s p) ∙
-      ap (λ (z : exchange.Settled). record { outcome = outcomeFrom (z .outcome); time = z .time; reply = placeFrom (z .reply) }) e ∙
-      settled-back begins s′ q)
-
-  pub turns-unique : {m : Bool} {a : exchange.Asked} {hush : Bool} {e : Entry} {x y : Turned} → Turns m a hush e l x → Turns m a hush e l y → x ≡ y
-  turns-unique {hush = hush} {e = e} {x = x} {y = y} h k =
-      tells hush (e .time) _ x y (h .placed) (k .placed)
-      (sym (h .means (probe 1) 0 [] []) ∙ k .means (probe 1) 0 [] [])
-      (sym (h .means (probe 2) 0 [] []) ∙ k .means (probe 2) 0 [] [])
+  pub turns-unique : {strict : Bool} {a : exchange.Asked} {overall : Option ℕ} {before : State} {e : Entry} {x y : Turn} → Turns strict a overall before e l x → Turns strict a overall before e l y → x ≡ y
+  turns-unique {overall = overall} {before = before} {e = e} {x = x} {y = y} h k = turns-to-unique overall _ before x y _ (h .means) (k .means)

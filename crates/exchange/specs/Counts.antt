@@ -1,33 +1,33 @@
 -- Counts of events and notices, all of them and those at times up to T, for the lists of times that `rules` carries.
-use Prim.Native.Nat.{ℕ}
-use mathlib.Core.Bool.{Bool, true}
-use mathlib.Core.Path.{_≡_}
-use mathlib.Core.List.{List}
+use Prim.Native.Nat.{ℕ, _+_, min}
+use mathlib.Core.Bool.{Bool, true, cond}
+use mathlib.Core.List.{List, [], _∷_}
 use mathlib.Core.Option.{Option, none, some}
 use lib.Dec.{leb}
 use lib.ListN.{length}
 use Rattle.rules.specs.Events.{upTo}
-use Rattle.rules.specs.Exchange as exchange
-use Rattle.exchange.specs.declared.Count.{Count}
-use Rattle.exchange.specs.declared.types.RequestTimeout.{RequestTimeout}
-use Rattle.exchange.specs.declared.types.Settled.{Settled}
-use Rattle.exchange.specs.declared.types.Answer.{Answer}
-use Rattle.exchange.specs.Meaning.{limitOf, settledOf}
-use Rattle.exchange.specs.Places.{Answers, Inside, InsideOutcome}
+use Rattle.exchange.specs.declared.types.Count.{Count}
 
 abbrev pub inTime : Option ℕ → ℕ → Bool
 inTime none t = true
-inTime (some limit) t = leb t limit
+inTime (some overall) t = leb t overall
 
 abbrev pub countTo : Option ℕ → List ℕ → ℕ
 countTo none ts = length ts
-countTo (some limit) ts = upTo limit ts
+countTo (some overall) ts = upTo overall ts
 
+-- The count of these times.
 abbrev pub countOf : Option ℕ → List ℕ → Count
-countOf limit ts = record { all = length ts; early = countTo limit ts }
+countOf overall ts = record { all = length ts; early = countTo overall ts }
 
--- An answer under T, whatever times the counts of events and of notices stand for.
-abbrev pub Under : RequestTimeout → Settled → Count → Count → Answer → Type 0
-Under timeout s events notices r =
-    (replies es ns : List ℕ) → events ≡ countOf (limitOf timeout) es → notices ≡ countOf (limitOf timeout) ns → InsideOutcome replies
-    (s .outcome) → Inside replies (s .reply) → Answers replies r (exchange.under (limitOf timeout) (settledOf replies s es ns))
+-- No event list is so long that a count stays where it is.
+abbrev pub oneMore : ℕ → ℕ
+oneMore n = min (n + 1) 18446744073709551615
+
+-- A count with one time more, and with each of these.
+abbrev pub counted : Option ℕ → ℕ → Count → Count
+counted overall t k = record { all = oneMore (k .all); early = cond (inTime overall t) (oneMore (k .early)) (k .early) }
+
+abbrev pub plus : Option ℕ → List ℕ → Count → Count
+plus overall [] k = k
+plus overall (t ∷ ts) k = counted overall t (plus overall ts k)

@@ -9,7 +9,7 @@ use Rattle.rules.specs.Exchange.{Asked, exchange}
 
 -- The exchange over the events that the lent bytes say.
 abbrev pub over : Bool → Asked → Option ℕ → List ℕ → List ℕ → Answer
-over m a limit events replies = exchange m a limit (map (eventOf replies) (entries events))
+over strict a overall events replies = exchange strict a overall (map (eventOf replies) (entries events))
 
 unfoldable pub guarded : Bool → Asked → Option ℕ → List ℕ → List ℕ → Answer
-guarded m a limit events replies = cond (withinLimits events replies) (over m a limit events replies) (refusal 10)
+guarded strict a overall events replies = cond (withinLimits events replies) (over strict a overall events replies) (refusal 10)

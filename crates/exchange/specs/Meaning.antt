@@ -5,9 +5,10 @@ use mathlib.Core.Option.{Option, none, some}
 use lib.ListN.{take, drop}
 use Rattle.rules.specs.Answers as rules
 use Rattle.rules.specs.Answers.{Part, part, deviation, deviation8, badLength, overflow, positive, suppressed, negative, timeout, disconnected, transport, fault, refused}
-use Rattle.rules.specs.Checks.{Check, judge}
+use Rattle.rules.specs.InOrder.{Check, judge}
 use Rattle.rules.specs.Events.{Entry}
 use Rattle.rules.specs.Exchange as exchange
+use Rattle.rules.specs.Settings as settings
 use Rattle.exchange.specs.declared.error.Maximum.{Maximum}
 use Rattle.exchange.specs.declared.error.Maximum.the-variants as maximum
 use Rattle.exchange.specs.declared.error.ProtocolDeviation.{ProtocolDeviation}
@@ -21,13 +22,13 @@ use Rattle.exchange.specs.declared.types.SubFunction.{SubFunction}
 use Rattle.exchange.specs.declared.types.SubFunction.the-variants.{Absent, Given}
 use Rattle.exchange.specs.declared.types.RequestTimeout.{RequestTimeout}
 use Rattle.exchange.specs.declared.types.RequestTimeout.the-variants.{Never, At}
+use Rattle.exchange.specs.declared.types.Timing.{Timing}
 use Rattle.exchange.specs.declared.types.Asked.{Asked}
 use Rattle.exchange.specs.declared.types.Event.{Event}
 use Rattle.exchange.specs.declared.types.Outcome.{Outcome}
 use Rattle.exchange.specs.declared.types.Outcome.the-variants as outcome
 use Rattle.exchange.specs.declared.types.Step.{Step}
 use Rattle.exchange.specs.declared.types.Step.the-variants.{Pending, Settles}
-use Rattle.exchange.specs.declared.types.Settled.{Settled}
 use Rattle.exchange.specs.declared.types.Answer.{Answer}
 
 abbrev pub maximumOf : Maximum → Option ℕ
@@ -35,6 +36,23 @@ maximumOf maximum.None = none
 maximumOf (maximum.At n) = some n
 
 -- "Deviations are numbered 1 to 15 in the order of `ProtocolDeviation`"
+abbrev pub deviationNumber : ProtocolDeviation → ℕ
+deviationNumber protocol.InvalidServiceId = 1
+deviationNumber protocol.InvalidRequestServiceId = 2
+deviationNumber protocol.InvalidSubFunction = 3
+deviationNumber protocol.UnexpectedPositiveResponse = 4
+deviationNumber protocol.InvalidDataIdentifier = 5
+deviationNumber protocol.InvalidRoutineIdentifier = 6
+deviationNumber protocol.InvalidBlockSequenceCounter = 7
+deviationNumber (protocol.InvalidResponseLength least most) = 8
+deviationNumber protocol.InvalidLengthFormat = 9
+deviationNumber protocol.InvalidLengthFormatIdentifier = 10
+deviationNumber protocol.InvalidMaxNumberOfBlockLength = 11
+deviationNumber protocol.InvalidAddressAndLengthFormatIdentifier = 12
+deviationNumber protocol.InvalidMemoryAddress = 13
+deviationNumber protocol.InvalidMemorySize = 14
+deviationNumber protocol.InvalidMemoryRecordLength = 15
+
 abbrev pub deviationOf : ProtocolDeviation → rules.Fault
 deviationOf protocol.InvalidServiceId = deviation 1
 deviationOf protocol.InvalidRequestServiceId = deviation 2
@@ -65,12 +83,6 @@ abbrev pub verdictOf : Verdict → Option rules.Fault
 verdictOf Passed = none
 verdictOf (Failed f) = some (faultOf f)
 
--- A fault as an outcome.
-abbrev pub faulted : Fault → Outcome
-faulted (wrong.ProtocolDeviation d) = outcome.ProtocolDeviation d
-faulted wrong.InvalidResponseLength = outcome.InvalidResponseLength
-faulted wrong.BlockLengthOverflow = outcome.BlockLengthOverflow
-
 -- The bytes at a place of the lent reply bytes, and where they stand.
 abbrev pub partOf : List ℕ → Place → Part
 partOf replies p = part (p .at) (take (p .len) (drop (p .at) replies))
@@ -82,18 +94,12 @@ outcomeOf replies (outcome.NegativeResponse c) = negative c
 outcomeOf replies outcome.Timeout = timeout
 outcomeOf replies outcome.Disconnected = disconnected
 outcomeOf replies (outcome.Transport n) = transport n
-outcomeOf replies (outcome.ProtocolDeviation d) = fault (deviationOf d)
-outcomeOf replies outcome.InvalidResponseLength = fault badLength
-outcomeOf replies outcome.BlockLengthOverflow = fault overflow
+outcomeOf replies (outcome.Fault f) = fault (faultOf f)
 outcomeOf replies (outcome.Refused n) = refused n
 
 abbrev pub stepOf : List ℕ → Step → exchange.Step
 stepOf replies Pending = exchange.pending
 stepOf replies (Settles o) = exchange.settles (outcomeOf replies o)
-
--- A settled exchange, with the times of the events read and of the notices among them.
-abbrev pub settledOf : List ℕ → Settled → List ℕ → List ℕ → exchange.Settled
-settledOf replies s es ns = exchange.settled (outcomeOf replies (s .outcome)) (s .time) es ns (partOf replies (s .reply))
 
 abbrev pub answerOf : List ℕ → Answer → rules.Answer
 answerOf replies x = record {
@@ -108,12 +114,15 @@ abbrev pub subOf : SubFunction → Option ℕ
 subOf Absent = none
 subOf (Given s) = some s
 
-abbrev pub limitOf : RequestTimeout → Option ℕ
-limitOf Never = none
-limitOf (At limit) = some limit
+abbrev pub overallOf : RequestTimeout → Option ℕ
+overallOf Never = none
+overallOf (At overall) = some overall
+
+abbrev pub timed : Timing → settings.Timing
+timed t = record { p2 = t .p2; star = t .star }
 
 abbrev pub askedOf : Asked → exchange.Asked
-askedOf a = record { sid = a .sid; sub = subOf (a .sub); p2 = a .p2; star = a .star }
+askedOf a = record { sid = a .sid; sub = subOf (a .sub); timing = timed (a .timing) }
 
 abbrev pub entryOf : Event → Entry
 entryOf e = record { time = e .time; kind = e .kind; offset = e .offset; size = e .size }

@@ -1,8 +1,9 @@
 -- What contracts say beside the meaning: where the places lie. With that the meaning determines the answer.
 use Prim.Native.Nat.{ℕ, _+_, _≤_}
-use mathlib.Core.Bool.{Bool, false, cond}
+use mathlib.Core.Bool.{Bool, cond}
 use mathlib.Core.Path.{_≡_}
-use mathlib.Core.List.{List, _∷_}
+use mathlib.Core.List.{List, []}
+use mathlib.Core.Option.{Option}
 use lib.Dec.{eqb}
 use lib.ListN.{length}
 use Rattle.rules.specs.Answers as rules
@@ -14,10 +15,12 @@ use Rattle.exchange.specs.declared.types.Outcome.the-variants as outcome
 use Rattle.exchange.specs.declared.types.Step.{Step}
 use Rattle.exchange.specs.declared.types.Step.the-variants.{Pending, Settles}
 use Rattle.exchange.specs.declared.types.Settled.{Settled}
-use Rattle.exchange.specs.declared.types.Turned.{Turned}
-use Rattle.exchange.specs.declared.types.Turned.the-variants.{Idle, Notice, Ends}
+use Rattle.exchange.specs.declared.types.State.{State}
+use Rattle.exchange.specs.declared.types.Turn.{Turn}
+use Rattle.exchange.specs.declared.types.Turn.the-variants.{On, Ends}
 use Rattle.exchange.specs.declared.types.Answer.{Answer}
-use Rattle.exchange.specs.Meaning.{partOf, stepOf, settledOf, answerOf}
+use Rattle.exchange.specs.Meaning.{partOf, outcomeOf, stepOf, answerOf}
+use Rattle.exchange.specs.Counts.{plus}
 
 abbrev pub Inside : List ℕ → Place → Type 0
 Inside replies p = p .at + p .len ≤ length replies
@@ -29,9 +32,7 @@ InsideOutcome replies (outcome.NegativeResponse c) = Unit {0}
 InsideOutcome replies outcome.Timeout = Unit {0}
 InsideOutcome replies outcome.Disconnected = Unit {0}
 InsideOutcome replies (outcome.Transport n) = Unit {0}
-InsideOutcome replies (outcome.ProtocolDeviation d) = Unit {0}
-InsideOutcome replies outcome.InvalidResponseLength = Unit {0}
-InsideOutcome replies outcome.BlockLengthOverflow = Unit {0}
+InsideOutcome replies (outcome.Fault f) = Unit {0}
 InsideOutcome replies (outcome.Refused n) = Unit {0}
 
 abbrev pub InsideStep : List ℕ → Step → Type 0
@@ -58,29 +59,32 @@ pub record Named (replies : List ℕ) (e : Entry) (p : Place) : Type 0 where
 abbrev pub beginning : Entry → ℕ
 beginning e = cond (eqb (e .kind) 0) (e .offset) 0
 
--- Where a settled exchange's places lie: the reply begins at the event's or is nowhere.
-pub record Placed (replies : List ℕ) (begins : ℕ) (s : Settled) : Type 0 where
-  pub outcome : InsideOutcome replies (s .outcome)
+-- A settled exchange as `rules` has it from the bare state, with what was read before added; its reply begins at the event's or is nowhere.
+pub record SettlesAs (overall : Option ℕ) (replies : List ℕ) (begins : ℕ) (before : State) (s : Settled) (x : exchange.Settled) : Type 0 where
+  pub means : outcomeOf replies (s .outcome) ≡ x .outcome
+  pub time : s .time ≡ x .time
+  pub read : s .read ≡ plus overall (x .read) (before .read)
+  pub notices : s .notices ≡ plus overall (x .notices) (before .notices)
+  pub reply : partOf replies (s .reply) ≡ x .reply
+  pub inside : InsideOutcome replies (s .outcome)
   pub whole : length (partOf replies (s .reply) .bytes) ≡ s .reply .len
   pub starts : s .reply .at ≤ begins
 
-abbrev pub PlacedTurn : List ℕ → ℕ → Turned → Type 0
-PlacedTurn replies begins Idle = Unit {0}
-PlacedTurn replies begins (Notice next) = Unit {0}
-PlacedTurn replies begins (Ends s) = Placed replies begins s
+-- The state behind an event, in the same way.
+abbrev pub onward : Option ℕ → State → exchange.State → State
+onward overall before x = record {
+  hush = x .hush;
+  deadline = x .deadline;
+  read = plus overall (x .read) (before .read);
+  notices = plus overall (x .notices) (before .notices);
+}
 
--- What is left to do after an event at time t. `on`: the exchange over the events behind it.
-abbrev pub resume : List ℕ → (Bool → ℕ → List ℕ → List ℕ → exchange.Settled) → ℕ → Bool → ℕ → List ℕ → List ℕ → Turned → exchange.Settled
-resume replies on t hush d es ns Idle = on hush d (t ∷ es) ns
-resume replies on t hush d es ns (Notice next) = on false next (t ∷ es) (t ∷ ns)
-resume replies on t hush d es ns (Ends s) = settledOf replies s (t ∷ es) ns
+abbrev pub TurnsTo : Option ℕ → List ℕ → ℕ → State → Turn → exchange.Turn → Type 0
+TurnsTo overall replies begins before (On s) (exchange.on x) = s ≡ onward overall before x
+TurnsTo overall replies begins before (On s) (exchange.ends x) = ⊥
+TurnsTo overall replies begins before (Ends s) (exchange.on x) = ⊥
+TurnsTo overall replies begins before (Ends s) (exchange.ends x) = SettlesAs overall replies begins before s x
 
--- One event in time: whatever follows it, and whatever was read before it.
-pub record Turns (strict : Bool) (a : exchange.Asked) (hush : Bool) (e : Entry) (replies : List ℕ) (r : Turned) : Type 0 where
-  pub means : (on : Bool → ℕ → List ℕ → List ℕ → exchange.Settled) (d : ℕ) (es ns : List ℕ)
-      → exchange.turn strict a on (eventOf replies e) hush d es ns ≡ resume replies on (e .time) hush d es ns r
-  pub placed : PlacedTurn replies (beginning e) r
-
-pub record Silent (hush : Bool) (d : ℕ) (s : Settled) : Type 0 where
-  pub means : (replies es ns : List ℕ) → settledOf replies s es ns ≡ exchange.silence hush d es ns
-  pub placed : (replies : List ℕ) → Placed replies 0 s
+-- One event in time, whatever was read before it: `rules`' turn from the state where nothing was.
+pub record Turns (strict : Bool) (a : exchange.Asked) (overall : Option ℕ) (s : State) (e : Entry) (replies : List ℕ) (r : Turn) : Type 0 where
+  pub means : TurnsTo overall replies (beginning e) s r (exchange.turn strict a (exchange.state (s .hush) (s .deadline) [] []) (eventOf replies e))

@@ -12,11 +12,14 @@ ghost use Rattle.rules.specs.Events as rules;
 ghost use Rattle.exchange.specs.Meaning.{entryOf};
 ghost use Rattle.exchange.specs.Places.{Named};
 
+// "Event, 10 bytes"
+pub const EVENT_SIZE: usize = 10;
+
 // Event number `i`. Bytes past the end read as 0.
 pub fn event_at(events: &[u8], i: usize) -> Event
     ensures { λ r. ⌜ entryOf r ≡ entryAt (now (events .entry)) i ⌝ }
 {
-    if i > events.len() / 10 {
+    if i > events.len() / EVENT_SIZE {
         return Event {
             time: 0,
             kind: 0,
@@ -24,7 +27,7 @@ pub fn event_at(events: &[u8], i: usize) -> Event
             size: 0,
         };
     }
-    let entry = part(events, i * 10, 10);
+    let entry = part(events, i * EVENT_SIZE, EVENT_SIZE);
     Event {
         time: u32_at(entry, 0),
         kind: u16_at(entry, 4),
@@ -63,10 +66,10 @@ fn sound(event: Event, replies: &[u8]) -> bool
 pub fn within_limits(events: &[u8], replies: &[u8]) -> bool
     ensures { λ r. ⌜ r ≡ withinLimits (now (events .entry)) (now (replies .entry)) ⌝ }
 {
-    if events.len() % 10 != 0 {
+    if events.len() % EVENT_SIZE != 0 {
         return false;
     }
-    let n = events.len() / 10;
+    let n = events.len() / EVENT_SIZE;
     if n > 512 {
         return false;
     }

@@ -1,37 +1,40 @@
 // The exchange over a lent event list: "The exchange reads until one event settles it".
-use checks::look;
-use checks::suppresses;
+use events::EVENT_SIZE;
 use events::event_at;
 use events::named;
 use events::within_limits;
+use judging::look;
+use judging::suppresses;
 use types::Answer;
 use types::Asked;
+use types::Count;
 use types::Event;
 use types::Outcome;
 use types::Place;
 use types::RequestTimeout;
 use types::Settled;
+use types::State;
 use types::Step;
-use types::Turned;
+use types::Turn;
 ghost use mathlib.Core.Path.{_≡_};
 ghost use mathlib.Core.Bool.{Bool};
-ghost use mathlib.Core.List.{List, _∷_};
-ghost use Prim.Native.Nat.{ℕ, _<_, _≤_, _^_};
+ghost use mathlib.Core.List.{[]};
 ghost use Rattle.rules.specs.Events.{withinLimits};
 ghost use Rattle.rules.specs.Exchange as rules;
-ghost use Rattle.exchange.specs.Meaning.{askedOf, limitOf, entryOf, outcomeOf};
-ghost use Rattle.exchange.specs.Places.{Silent, Turns, Answers};
-ghost use Rattle.exchange.specs.Counts.{countOf, inTime, Under};
+ghost use Rattle.exchange.specs.Meaning.{askedOf, overallOf, entryOf, outcomeOf};
+ghost use Rattle.exchange.specs.Counts.{inTime, oneMore, counted};
+ghost use Rattle.exchange.specs.States.{startOf, silenceOf, underOf};
+ghost use Rattle.exchange.specs.Places.{Turns, Answers};
 ghost use Rattle.exchange.specs.Guarded.{over, guarded};
 
-pub mod checks;
 pub mod error;
 pub mod events;
+pub mod judging;
 pub mod types;
 
 // "a negative or positive with suppression waits until P2 if later"
 fn waits(outcome: Outcome) -> bool
-    ensures { λ r. ⌜ ((replies : List ℕ) → r ≡ rules.waits (outcomeOf replies outcome)) ⌝ }
+    ensures { λ r. ⌜ r ≡ rules.waits (outcomeOf [] outcome) ⌝ }
 {
     match outcome {
         Outcome::PositiveResponse(_) => true,
@@ -40,19 +43,17 @@ fn waits(outcome: Outcome) -> bool
         Outcome::Timeout => false,
         Outcome::Disconnected => false,
         Outcome::Transport(_) => false,
-        Outcome::ProtocolDeviation(_) => false,
-        Outcome::InvalidResponseLength => false,
-        Outcome::BlockLengthOverflow => false,
+        Outcome::Fault(_) => false,
         Outcome::Refused(_) => false,
     }
 }
 
 // The time at which an outcome of an event at this time finishes.
 fn finish(asked: Asked, outcome: Outcome, time: u64) -> u64
-    ensures { λ r. ⌜ ((replies : List ℕ) → r ≡ rules.finish (askedOf asked) (outcomeOf replies outcome) time) ⌝ }
+    ensures { λ r. ⌜ r ≡ rules.finish (askedOf asked) (outcomeOf [] outcome) time ⌝ }
 {
     let sub = asked.sub;
-    let p2 = asked.p2 as u64;
+    let p2 = asked.timing.p2 as u64;
     if waits(outcome) {
         if suppresses(sub) {
             if time < p2 {
@@ -63,123 +64,170 @@ fn finish(asked: Asked, outcome: Outcome, time: u64) -> u64
     time
 }
 
+// Whether a time is up to T.
+fn in_time(overall: RequestTimeout, time: u64) -> bool
+    ensures { λ r. ⌜ r ≡ inTime (overallOf overall) time ⌝ }
+{
+    match overall {
+        RequestTimeout::Never => true,
+        RequestTimeout::At(overall) => time <= overall as u64,
+    }
+}
+
+// A count stays at the largest number that it has room for, which no event list reaches.
+fn one_more(n: usize) -> usize
+    ensures { λ r. ⌜ r ≡ oneMore n ⌝ }
+{
+    if n < usize::MAX { n + 1 } else { n }
+}
+
+// One more, at this time.
+fn counted(count: Count, overall: RequestTimeout, time: u64) -> Count
+    ensures { λ r. ⌜ r ≡ counted (overallOf overall) time count ⌝ }
+{
+    if in_time(overall, time) {
+        Count {
+            all: one_more(count.all),
+            early: one_more(count.early),
+        }
+    } else {
+        Count {
+            all: one_more(count.all),
+            early: count.early,
+        }
+    }
+}
+
+// "The deadline starts at P2."
+pub fn start(asked: Asked) -> State
+    ensures { λ r. ⌜ r ≡ startOf (askedOf asked) ⌝ }
+{
+    let sub = asked.sub;
+    State {
+        hush: suppresses(sub),
+        deadline: asked.timing.p2 as u64,
+        read: Count::NONE,
+        notices: Count::NONE,
+    }
+}
+
 // What one event in time does. "Idle changes nothing. End gives disconnected, error gives transport."
-pub fn turn(strict: bool, asked: Asked, hush: bool, event: Event, replies: &[u8]) -> Turned
-    ensures { λ r. ⌜ Turns strict (askedOf asked) hush (entryOf event) (now (replies .entry)) r ⌝ }
+pub fn turn(
+    strict: bool,
+    asked: Asked,
+    overall: RequestTimeout,
+    state: State,
+    event: Event,
+    replies: &[u8],
+) -> Turn
+    ensures { λ r. ⌜ Turns strict (askedOf asked) (overallOf overall) state (entryOf event) (now (replies .entry)) r ⌝ }
 {
     let kind = event.kind;
     let time = event.time as u64;
-    let star = asked.star as u64;
+    let hush = state.hush;
+    let notices = state.notices;
+    let read = counted(state.read, overall, time);
     if kind == 0 {
         let reply = named(event, replies);
         match look(strict, asked, hush, replies, reply) {
             Step::Pending => {
-                return Turned::Notice(time + star);
+                let notices = counted(notices, overall, time);
+                return Turn::On(State {
+                    hush: false,
+                    deadline: time + asked.timing.star as u64,
+                    read,
+                    notices,
+                });
             }
             Step::Settles(outcome) => {
                 let finished = finish(asked, outcome, time);
-                return Turned::Ends(Settled {
+                return Turn::Ends(Settled {
                     outcome,
                     time: finished,
+                    read,
+                    notices,
                     reply,
                 });
             }
         }
     }
     if kind == 1 {
-        return Turned::Idle;
+        return Turn::On(State {
+            hush,
+            deadline: state.deadline,
+            read,
+            notices,
+        });
     }
     if kind == 2 {
-        return Turned::Ends(Settled {
+        return Turn::Ends(Settled {
             outcome: Outcome::Disconnected,
             time,
+            read,
+            notices,
             reply: Place::NOWHERE,
         });
     }
-    Turned::Ends(Settled {
+    Turn::Ends(Settled {
         outcome: Outcome::Transport(event.size),
         time,
+        read,
+        notices,
         reply: Place::NOWHERE,
     })
 }
 
 // "No event in time: suppressed if bit 7 of the sub-function is set and no pending was read, else timeout. It finishes at the deadline."
-fn silence(hush: bool, deadline: u64) -> Settled
-    ensures { λ r. ⌜ Silent hush deadline r ⌝ }
+pub fn silence(state: State) -> Settled
+    ensures { λ r. ⌜ r ≡ silenceOf state ⌝ }
 {
-    if hush {
+    let read = state.read;
+    let notices = state.notices;
+    if state.hush {
         Settled {
             outcome: Outcome::Suppressed,
-            time: deadline,
+            time: state.deadline,
+            read,
+            notices,
             reply: Place::NOWHERE,
         }
     } else {
         Settled {
             outcome: Outcome::Timeout,
-            time: deadline,
+            time: state.deadline,
+            read,
+            notices,
             reply: Place::NOWHERE,
         }
     }
 }
 
-// How many events or notices were read, and how many of them at times up to T.
-struct Count {
-    all: usize,
-    early: usize,
-}
-
-// Whether a time is up to T.
-fn in_time(timeout: RequestTimeout, time: u64) -> bool
-    ensures { λ r. ⌜ r ≡ inTime (limitOf timeout) time ⌝ }
-{
-    match timeout {
-        RequestTimeout::Never => true,
-        RequestTimeout::At(limit) => time <= limit as u64,
-    }
-}
-
-// One more, at this time.
-fn counted(count: Count, timeout: RequestTimeout, time: u64) -> Count
-    requires { ⌜ (count .all < 2 ^ 63) × (count .early ≤ count .all) ⌝ }
-    ensures { λ r. ⌜ ((ts : List ℕ) → count ≡ countOf (limitOf timeout) ts → r ≡ countOf (limitOf timeout) (time ∷ ts)) ⌝ }
-{
-    if in_time(timeout, time) {
-        Count {
-            all: count.all + 1,
-            early: count.early + 1,
-        }
-    } else {
-        Count {
-            all: count.all + 1,
-            early: count.early,
-        }
-    }
-}
-
 // "If that time exceeds T, the outcome is timeout at T." "Under a timeout at T these count only events at times up to T."
-fn under(timeout: RequestTimeout, settled: Settled, events: Count, notices: Count) -> Answer
-    ensures { λ r. ⌜ Under timeout settled events notices r ⌝ }
+pub fn under(overall: RequestTimeout, settled: Settled) -> Answer
+    ensures { λ r. ⌜ r ≡ underOf (overallOf overall) settled ⌝ }
 {
     let outcome = settled.outcome;
+    let read = settled.read;
+    let notices = settled.notices;
     let reply = settled.reply;
     let whole = Answer {
         outcome,
         time: settled.time,
-        events: events.all,
+        events: read.all,
         notices: notices.all,
         reply,
     };
-    match timeout {
+    match overall {
         RequestTimeout::Never => whole,
-        RequestTimeout::At(limit) => {
-            let limit = limit as u64;
-            if settled.time <= limit {
+        RequestTimeout::At(overall) => {
+            let overall = overall as u64;
+            if settled.time <= overall {
                 whole
             } else {
                 Answer {
                     outcome: Outcome::Timeout,
-                    time: limit,
-                    events: events.early,
+                    time: overall,
+                    events: read.early,
                     notices: notices.early,
                     reply: Place::NOWHERE,
                 }
@@ -188,44 +236,33 @@ fn under(timeout: RequestTimeout, settled: Settled, events: Count, notices: Coun
     }
 }
 
-// The loop over the list, with the deadline carried. "An event exactly at a deadline is in time."
+// The loop over the list, with the state and its deadline carried. "An event exactly at a deadline is in time."
 fn settle(
     strict: bool,
     asked: Asked,
-    timeout: RequestTimeout,
+    overall: RequestTimeout,
     events: &[u8],
     replies: &[u8],
 ) -> Answer
     requires { ⌜ withinLimits (now events) (now replies) ≡ Bool.true ⌝ }
-    ensures { λ r. ⌜ Answers (now (replies .entry)) r (over strict (askedOf asked) (limitOf timeout) (now (events .entry)) (now (replies .entry))) ⌝ }
+    ensures { λ r. ⌜ Answers (now (replies .entry)) r (over strict (askedOf asked) (overallOf overall) (now (events .entry)) (now (replies .entry))) ⌝ }
 {
-    let n = events.len() / 10;
-    let sub = asked.sub;
-    let p2 = asked.p2 as u64;
+    let n = events.len() / EVENT_SIZE;
     let mut i = 0;
-    let mut hush = suppresses(sub);
-    let mut deadline = p2;
-    let mut read = Count { all: 0, early: 0 };
-    let mut notices = Count { all: 0, early: 0 };
+    let mut state = start(asked);
     let answer = loop {
         if i >= n {
-            break under(timeout, silence(hush, deadline), read, notices);
+            break under(overall, silence(state));
         }
         let event = event_at(events, i);
         let time = event.time as u64;
-        if time > deadline {
-            break under(timeout, silence(hush, deadline), read, notices);
+        if time > state.deadline {
+            break under(overall, silence(state));
         }
         i += 1;
-        read = counted(read, timeout, time);
-        match turn(strict, asked, hush, event, replies) {
-            Turned::Idle => {}
-            Turned::Notice(next) => {
-                notices = counted(notices, timeout, time);
-                hush = false;
-                deadline = next;
-            }
-            Turned::Ends(settled) => break under(timeout, settled, read, notices),
+        match turn(strict, asked, overall, state, event, replies) {
+            Turn::On(next) => state = next,
+            Turn::Ends(settled) => break under(overall, settled),
         }
     };
     answer
@@ -235,11 +272,11 @@ fn settle(
 pub fn exchange(
     strict: bool,
     asked: Asked,
-    timeout: RequestTimeout,
+    overall: RequestTimeout,
     events: &[u8],
     replies: &[u8],
 ) -> Answer
-    ensures { λ r. ⌜ Answers (now (replies .entry)) r (guarded strict (askedOf asked) (limitOf timeout) (now (events .entry)) (now (replies .entry))) ⌝ }
+    ensures { λ r. ⌜ Answers (now (replies .entry)) r (guarded strict (askedOf asked) (overallOf overall) (now (events .entry)) (now (replies .entry))) ⌝ }
 {
     if !within_limits(events, replies) {
         return Answer {
@@ -250,5 +287,5 @@ pub fn exchange(
             reply: Place::NOWHERE,
         };
     }
-    settle(strict, asked, timeout, events, replies)
+    settle(strict, asked, overall, events, replies)
 }

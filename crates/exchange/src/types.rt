@@ -1,5 +1,5 @@
 // What an exchange is asked, what it reads, and what it answers: plain data by value, with places into the lent reply bytes.
-use crate::error::ProtocolDeviation;
+use crate::error::Fault;
 
 // A part of the lent reply bytes.
 pub struct Place {
@@ -22,12 +22,17 @@ pub enum RequestTimeout {
     At(u32),
 }
 
+// "the session record, two numbers that the host lends": P2 and P2*, in milliseconds.
+pub struct Timing {
+    pub p2: u32,
+    pub star: u32,
+}
+
 // What the exchange knows of the request that was sent, and the session's timing.
 pub struct Asked {
     pub sid: u8,
     pub sub: SubFunction,
-    pub p2: u32,
-    pub star: u32,
+    pub timing: Timing,
 }
 
 // "Event, 10 bytes: time u32, kind u16, offset into reply bytes u16, length u16; kind 3 puts its number in length."
@@ -45,9 +50,7 @@ pub enum Outcome {
     Timeout,
     Disconnected,
     Transport(u16),
-    ProtocolDeviation(ProtocolDeviation),
-    InvalidResponseLength,
-    BlockLengthOverflow,
+    Fault(Fault),
     Refused(u8),
 }
 
@@ -57,17 +60,36 @@ pub enum Step {
     Settles(Outcome),
 }
 
+// How many events or notices were read, and how many of them at times up to T.
+pub struct Count {
+    pub all: usize,
+    pub early: usize,
+}
+
+impl Count {
+    pub const NONE: Count = Count { all: 0, early: 0 };
+}
+
+// An exchange that reads on. `hush`: suppressed, and no notice read; then what was read, and the notices among it.
+pub struct State {
+    pub hush: bool,
+    pub deadline: u64,
+    pub read: Count,
+    pub notices: Count,
+}
+
 // An exchange that is settled, before T is asked; `reply` is the reply that settled it.
 pub struct Settled {
     pub outcome: Outcome,
     pub time: u64,
+    pub read: Count,
+    pub notices: Count,
     pub reply: Place,
 }
 
-// What one event in time does: nothing, or a notice with the deadline that it sets, or it settles the exchange.
-pub enum Turned {
-    Idle,
-    Notice(u64),
+// What one event in time does: the exchange reads on, or ends.
+pub enum Turn {
+    On(State),
     Ends(Settled),
 }
 

@@ -7,7 +7,7 @@ use mathlib.Core.List.{List}
 use lib.Dec.{eqb}
 use lib.ListN.{length, take, drop, length-drop}
 use lib.Seq.{take-all}
-use Rattle.rules.specs.Calls.{Call, Field, given, sent, requestOf}
+use Rattle.rules.specs.Calls.{Call, Field, given}
 use Rattle.rules.specs.Client.{Result}
 use Rattle.rules.specs.Logs.{Header, flag, usesOf, fieldsOk}
 use Rattle.rules.specs.Logs as rules
@@ -15,87 +15,59 @@ use Rattle.rules.specs.Settings.{Setting, Lent}
 use Rattle.requests.specs.Meaning.{callFrom, callOf}
 use Rattle.calls.specs.Meaning.{settingOf, Called}
 use Rattle.calls.specs.declared.Ask.{Ask}
-use Rattle.calls.specs.declared.Session.{Session}
 use Rattle.calls.specs.declared.Answered.{Answered}
-use Rattle.asking.specs.Asking.{chosen, sessionOf, Asks, AskedBy}
-use Rattle.asking.specs.declared.Asked.{Asked}
-use Rattle.asking.specs.declared.Asked.the-variants.{Unsound}
-use Rattle.host.specs.Numbers.{valuesOf, numbersOf, Tells}
-use Rattle.host.specs.Sending.{lengthOf, capped}
-use Rattle.host.specs.Door.{fits, asksOne, addressIn, sizeIn, dataIn, asked, requestIn, Served, InBytes}
-use Rattle.host.proofs.Lengths.{long-as, uncapped, sendable}
+use Rattle.log_call.specs.Asking.{chosen, sessionOf, Asks, AskedBy}
+use Rattle.log_call.specs.declared.Fields.{Fields}
+use Rattle.log_call.specs.declared.Fields.the-variants.{Unsound}
+use Rattle.host.specs.Numbers.{numbersOf, Tells}
+use Rattle.host.specs.Door.{fits, asksOne, addressIn, sizeIn, dataIn, asked, Served, InBytes}
 
 -- What the code was told of the header that it made: what it asks, and, if its fields suit a call, whether the arguments fit.
-pub told-of : {h made : Header} {x y : Asked} → made ≡ h → x ≡ y → AskedBy made x → AskedBy h y
-told-of {h} {made} {x} {y} e f k = subst (λ (m : Header). AskedBy m y) e (subst (λ (z : Asked). AskedBy made z) f k)
+pub told-of : {h made : Header} {x y : Fields} → made ≡ h → x ≡ y → AskedBy made x → AskedBy h y
+told-of {h} {made} {x} {y} e f k = subst (λ (m : Header). AskedBy m y) e (subst (λ (z : Fields). AskedBy made z) f k)
 
-pub unsuited : {h made : Header} {x : Asked} (n : ℕ) → made ≡ h → x ≡ Unsound → AskedBy made x → asksOne h n ≡ false
+pub unsuited : {h made : Header} {x : Fields} (n : ℕ) → made ≡ h → x ≡ Unsound → AskedBy made x → asksOne h n ≡ false
 unsuited {h} n e f k = rw (told-of {h = h} e f k)
 
 pub suited : {h made : Header} (n : ℕ) {b : Bool} → made ≡ h → fieldsOk h (usesOf (h .call)) ≡ true → b ≡ fits made n → asksOne h n ≡ b
 suited n e sound f = rw sound (sym (f ∙ ap (λ (k : Header). fits k n) e))
 
-pub asks-none : {b : Bool} {x : Result} {long : ℕ} {before told : List ℕ} → b ≡ false → Served b x long before told 1 before told
+pub asks-none : {b : Bool} {x : Result} {before told : List ℕ} → b ≡ false → Served b x before told 1 before told
 asks-none e = record { done = rw e; request = rw e; answer = rw e }
 
 -- A call as its fields ask it.
 meant : {h : Header} {ask : Ask} (a s : Field) (d : List ℕ) {lent : Lent} {x : Answered} {after′ : List ℕ} → Asks h ask
-    → Called (ask .strict) (settingOf ask (sessionOf h)) (callFrom (ask .call) a s (ask .present) d) lent x after′
+    → Called (ask .strict) (settingOf ask (sessionOf h)) (callFrom (ask .call) a s d) lent x after′
     → Called (eqb (flag 1 h) 1) (rules.settingOf h) (chosen h a s d) lent x after′
 meant {h} {ask} a s d {lent} {x} {after′} k called =
     subst (λ (c : Call). Called (eqb (flag 1 h) 1) (rules.settingOf h) c lent x after′) (k .call a s d)
-    (subst (λ (w : Setting). Called (eqb (flag 1 h) 1) w (callFrom (ask .call) a s (ask .present) d) lent x after′) (k .setting)
-    (subst (λ (m : Bool). Called m (settingOf ask (sessionOf h)) (callFrom (ask .call) a s (ask .present) d) lent x after′) (k .strict) called))
+    (subst (λ (w : Setting). Called (eqb (flag 1 h) 1) w (callFrom (ask .call) a s d) lent x after′) (k .setting)
+    (subst (λ (m : Bool). Called m (settingOf ask (sessionOf h)) (callFrom (ask .call) a s d) lent x after′) (k .strict) called))
 
--- The same numbers, whatever a refused call would send.
-same-numbers : (r : Result) (m n : ℕ) → (eqb (valuesOf (r .answer .outcome) .outcome) 9 ≡ false → m ≡ n) → numbersOf r m ≡ numbersOf r n
-unfolding numbersOf
-same-numbers r m n h = go (eqb (valuesOf (r .answer .outcome) .outcome) 9) refl
-  where
-    go : (b : Bool) → eqb (valuesOf (r .answer .outcome) .outcome) 9 ≡ b → numbersOf r m ≡ numbersOf r n
-    go true e = rw e
-    go false e = rw (h e)
-
--- How long a request is, of which the code was told these lengths.
-abbrev Sends : Ask → Field → Field → List ℕ → ℕ → Type 0
-Sends ask a s d long = long ≡ lengthOf (ask .call) (capped (length (sent a))) (capped (length (sent s))) (ask .present) (capped (length d))
-
-module _ {h : Header} {ask : Ask} (a s : Field) (d : List ℕ) {lent : Lent} {x : Answered} {after′ : List ℕ} {long : ℕ} (k : Asks h ask)
-    (called : Called (ask .strict) (settingOf ask (sessionOf h)) (callFrom (ask .call) a s (ask .present) d) lent x after′) (sends : Sends ask a s d long) where
-  long-enough : eqb (valuesOf (asked h a s d lent .answer .outcome) .outcome) 9 ≡ false → long ≡ length (requestIn h a s d)
-  long-enough e =
-      let quiet = rules.settingOf h .quiet in
-      let as-said : lengthOf (ask .call) (length (sent a)) (length (sent s)) (ask .present) (length d) ≡ length (requestIn h a s d) =
-      sym (long-as quiet a s d (ask .call) (ask .present)) ∙ ap (λ (c : Call). length (requestOf quiet c)) (k .call a s d)
-      in
-      let fits-in = sendable (eqb (flag 1 h) 1) (rules.settingOf h) (chosen h a s d) lent e in
-      sends ∙ uncapped (ask .call) (length (sent a)) (length (sent s)) (ask .present) (length d) (omega (arith, as-said, fits-in)) ∙ as-said
-
-  pub asks-one : {b : Bool} {told told′ : List ℕ} → b ≡ true → Tells x long told′ → Served b (asked h a s d lent) (length (requestIn h a s d)) (lent .buffer) told 0 after′ told′
+module _ {h : Header} {ask : Ask} (a s : Field) (d : List ℕ) {lent : Lent} {x : Answered} {after′ : List ℕ} (k : Asks h ask)
+    (called : Called (ask .strict) (settingOf ask (sessionOf h)) (callFrom (ask .call) a s d) lent x after′) where
+  pub asks-one : {b : Bool} {told told′ : List ℕ} → b ≡ true → Tells x told′ → Served b (asked h a s d lent) (lent .buffer) told 0 after′ told′
   asks-one e tells =
       let c = meant a s d k called in
       record {
         done = rw e;
         request = rw e (ap (λ (y : Result). y .buffer) (c .means));
-        answer = rw e
-            (tells (lent .replies) after′ (c .outcome) (c .reply) ∙
-            ap (λ (y : Result). numbersOf y long) (c .means) ∙
-            same-numbers (asked h a s d lent) long (length (requestIn h a s d)) long-enough);
+        answer = rw e (tells (lent .replies) after′ (c .outcome) (c .reply) ∙ ap numbersOf (c .means));
       }
 
 -- The slices of the argument bytes that the code hands on.
-pub asks-in-bytes : {h : Header} {ask : Ask} (l : List ℕ) {a s d : List ℕ} {lent : Lent} {x : Answered} {after′ told told′ : List ℕ} {long : ℕ} → asksOne h (length l) ≡ true
+pub asks-in-bytes : {h : Header} {ask : Ask} (l : List ℕ) {a s d : List ℕ} {lent : Lent} {x : Answered} {after′ told told′ : List ℕ} → asksOne h (length l) ≡ true
     → a ≡ take (h .addressLength) l → s ≡ take (h .sizeLength) (drop (h .addressLength) l) → d ≡ take (length l) (dataIn h l)
-    → Asks h ask → Called (ask .strict) (settingOf ask (sessionOf h)) (callOf (ask .call) a s (ask .present) d) lent x after′
-    → Sends ask (given a) (given s) d long → Tells x long told′ → InBytes h l lent told 0 after′ told′
-asks-in-bytes {h} {ask} l {a} {s} {d} {lent} {x} {after′} {told} {told′} e ea es ed k called sends tells =
+    → Asks h ask → Called (ask .strict) (settingOf ask (sessionOf h)) (callOf (ask .call) a s d) lent x after′
+    → Tells x told′ → InBytes h l lent told 0 after′ told′
+asks-in-bytes {h} {ask} l {a} {s} {d} {lent} {x} {after′} {told} {told′} e ea es ed k called tells =
     let rest = ed ∙ take-all (length l) (dataIn h l) (simp length-drop (omega arith)) in
-    subst (λ (y : List ℕ). Served (asksOne h (length l)) (asked h (addressIn h l) (sizeIn h l) y lent) (length (requestIn h (addressIn h l) (sizeIn h l) y)) (lent .buffer) told 0 after′ told′) rest
-    (subst (λ (y : List ℕ). Served (asksOne h (length l)) (asked h (addressIn h l) (given y) d lent) (length (requestIn h (addressIn h l) (given y) d)) (lent .buffer) told 0 after′ told′) es
-    (subst (λ (y : List ℕ). Served (asksOne h (length l)) (asked h (given y) (given s) d lent) (length (requestIn h (given y) (given s) d)) (lent .buffer) told 0 after′ told′) ea
-    (asks-one (given a) (given s) d k called sends e tells)))
+    subst (λ (y : List ℕ). Served (asksOne h (length l)) (asked h (addressIn h l) (sizeIn h l) y lent) (lent .buffer) told 0 after′ told′) rest
+    (subst (λ (y : List ℕ). Served (asksOne h (length l)) (asked h (addressIn h l) (given y) d lent) (lent .buffer) told 0 after′ told′) es
+    (subst (λ (y : List ℕ). Served (asksOne h (length l)) (asked h (given y) (given s) d lent) (lent .buffer) told 0 after′ told′) ea
+    (asks-one (given a) (given s) d k called e tells)))
 
 -- At most one result, one request and one list of numbers fit.
-pub unique : {b : Bool} {x : Result} {long : ℕ} {before told : List ℕ} {r r′ : ℕ} {a a′ t t′ : List ℕ} → Served b x long before told r a t → Served b x long before told r′ a′ t′
+pub unique : {b : Bool} {x : Result} {before told : List ℕ} {r r′ : ℕ} {a a′ t t′ : List ℕ} → Served b x before told r a t → Served b x before told r′ a′ t′
     → (r ≡ r′) × (a ≡ a′) × (t ≡ t′)
 unique k h = (k .done ∙ sym (h .done), k .request ∙ sym (h .request), k .answer ∙ sym (h .answer))

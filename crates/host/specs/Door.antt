@@ -5,16 +5,16 @@ use mathlib.Core.Path.{_≡_}
 use mathlib.Core.List.{List}
 use lib.Dec.{leb, eqb}
 use lib.ListN.{length, take, drop}
-use Rattle.rules.specs.Calls.{Field, given, alfid, requestOf}
+use Rattle.rules.specs.Calls.{Field, given, alfid}
 use Rattle.rules.specs.Client.{Result, call}
 use Rattle.rules.specs.Logs.{Header, flag, usesOf, fieldsOk, settingOf}
 use Rattle.rules.specs.Settings.{Lent}
-use Rattle.asking.specs.Asking.{chosen}
+use Rattle.log_call.specs.Asking.{chosen}
 use Rattle.host.specs.Numbers.{numbersOf}
 
 -- The numbers as the header of a log has them. The log's areas are slices here, and the header counts no data bytes.
 abbrev pub fields : ℕ → ℕ → ℕ → ℕ → ℕ → ℕ → ℕ → ℕ → ℕ → Header
-fields c flags value sub a s p2 star limit = record {
+fields c flags value sub a s p2 star overall = record {
   version = 1;
   call = c;
   flags = flags;
@@ -32,7 +32,7 @@ fields c flags value sub a s p2 star limit = record {
   total = 0;
   p2 = p2;
   star = star;
-  limit = limit;
+  overall = overall;
 }
 
 -- Whether there is such a call, and n argument bytes are as many as the two lengths say, and more with flag 32 only.
@@ -61,21 +61,17 @@ dataIn h l = drop (h .addressLength + h .sizeLength) l
 abbrev pub asked : Header → Field → Field → List ℕ → Lent → Result
 asked h a s d l = call (eqb (flag 1 h) 1) (settingOf h) (chosen h a s d) l
 
--- The request that it sends.
-abbrev pub requestIn : Header → Field → Field → List ℕ → List ℕ
-requestIn h a s d = requestOf (settingOf h .quiet) (chosen h a s d)
-
 -- 0 where the numbers ask a call: its request stands in the buffer by document 01's rules, and the answer has its numbers. 1 where they ask none: nothing is touched.
-pub record Served (asks : Bool) (x : Result) (long : ℕ) (before told : List ℕ) (r : ℕ) (after′ told′ : List ℕ) : Type 0 where
+pub record Served (asks : Bool) (x : Result) (before told : List ℕ) (r : ℕ) (after′ told′ : List ℕ) : Type 0 where
   pub done : r ≡ cond asks 0 1
   pub request : after′ ≡ cond asks (x .buffer) before
-  pub answer : told′ ≡ cond asks (numbersOf x long) told
+  pub answer : told′ ≡ cond asks (numbersOf x) told
 
 -- With argument bytes; in the `alfid` form with address and size as numbers v and u of widths w and w′, and data.
 abbrev pub InBytes : Header → List ℕ → Lent → List ℕ → ℕ → List ℕ → List ℕ → Type 0
 InBytes h l lent answer r request′ answer′ =
-    Served (asksOne h (length l)) (asked h (addressIn h l) (sizeIn h l) (dataIn h l) lent) (length (requestIn h (addressIn h l) (sizeIn h l) (dataIn h l))) (lent .buffer) answer r request′ answer′
+    Served (asksOne h (length l)) (asked h (addressIn h l) (sizeIn h l) (dataIn h l) lent) (lent .buffer) answer r request′ answer′
 
 abbrev pub InNumbers : Header → ℕ → ℕ → ℕ → ℕ → List ℕ → Lent → List ℕ → ℕ → List ℕ → List ℕ → Type 0
 InNumbers h v u w w′ d lent answer r request′ answer′ =
-    Served (hasAlfid (h .call) && asksOne h (length d)) (asked h (alfid v w) (alfid u w′) d lent) (length (requestIn h (alfid v w) (alfid u w′) d)) (lent .buffer) answer r request′ answer′
+    Served (hasAlfid (h .call) && asksOne h (length d)) (asked h (alfid v w) (alfid u w′) d lent) (lent .buffer) answer r request′ answer′

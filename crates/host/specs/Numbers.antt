@@ -1,12 +1,10 @@
 -- A whole call's result as numbers, which C and Rust can read.
 use Prim.Native.Nat.{ℕ, _-_, _^_}
-use mathlib.Core.Bool.{cond}
-use mathlib.Core.List.{List, [], _∷_}
+use mathlib.Core.List.{List, [], _∷_, _++_}
 use mathlib.Core.Option.{Option, none, some}
 use mathlib.Core.Path.{_≡_}
-use lib.Dec.{eqb}
 use lib.ListN.{length}
-use Rattle.rules.specs.Answers.{Outcome, positive, suppressed, negative, timeout, disconnected, transport, fault, refused, deviation, deviation8, badLength, overflow}
+use Rattle.rules.specs.Answers.{Answer, Outcome, positive, suppressed, negative, timeout, disconnected, transport, fault, refused, deviation, deviation8, badLength, overflow}
 use Rattle.rules.specs.Client.{Result}
 use Rattle.exchange.specs.Places.{Inside, InsideOutcome}
 use Rattle.calls.specs.Meaning.{resultOf}
@@ -36,28 +34,28 @@ valuesOf (fault badLength) = plain 7 0
 valuesOf (fault overflow) = plain 8 0
 valuesOf (refused n) = plain 9 n
 
--- The fifteen numbers of a call whose request is so long; where it is refused there is none.
-unfoldable pub numbersOf : Result → ℕ → List ℕ
-numbersOf r long =
-    let v = valuesOf (r .answer .outcome) in
+-- The numbers of an answer: its outcome's, finishing time, events read, notices, where the data stands, where the reply stands.
+abbrev pub answerNumbers : Answer → List ℕ
+answerNumbers x =
+    let v = valuesOf (x .outcome) in
     v .outcome ∷
     v .detail ∷
     v .least ∷
     v .most ∷
-    r .answer .time ∷
-    r .answer .events ∷
-    r .answer .notices ∷
+    x .time ∷
+    x .events ∷
+    x .notices ∷
     v .at ∷
     v .len ∷
-    r .answer .reply .at ∷
-    length (r .answer .reply .bytes) ∷
-    r .number ∷
-    r .timing .p2 ∷
-    r .timing .star ∷
-    cond (eqb (v .outcome) 9) 0 long ∷ []
+    x .reply .at ∷
+    length (x .reply .bytes) ∷ []
+
+-- The fifteen numbers of a call: its answer's, the number of calls 11 and 12, the session's timing afterwards, how many bytes were sent.
+unfoldable pub numbersOf : Result → List ℕ
+numbersOf r = answerNumbers (r .answer) ++ (r .number ∷ r .timing .p2 ∷ r .timing .star ∷ r .sent ∷ [])
 
 -- The numbers of an answer whose places lie in the lent reply bytes, whatever stands in the request buffer.
-abbrev pub Tells : Answered → ℕ → List ℕ → Type 0
-Tells x long r =
+abbrev pub Tells : Answered → List ℕ → Type 0
+Tells x r =
     (replies buffer : List ℕ) → InsideOutcome replies (x .answer .outcome) → Inside replies (x .answer .reply)
-    → r ≡ numbersOf (resultOf replies x buffer) long
+    → r ≡ numbersOf (resultOf replies x buffer)

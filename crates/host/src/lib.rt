@@ -1,10 +1,9 @@
 // The door for C and Rust: one function for all calls on numbers and byte slices, and one for the `alfid` forms. include/bintrochis.h says it to C.
-use asking::Asked;
-use asking::ask_of;
-use calls::Session;
+use exchange::types::Timing;
+use log_call::Fields;
+use log_call::ask_of;
 use logs::header::Header;
 use numbers::numbers;
-use sending::sent_length;
 use wire::part;
 ghost use mathlib.Core.Path.{_≡_};
 ghost use Rattle.logs.specs.Layout.{said};
@@ -12,7 +11,6 @@ ghost use Rattle.calls.specs.Meaning.{lentOf};
 ghost use Rattle.host.specs.Door.{fields, fits, hasAlfid, InBytes, InNumbers};
 
 mod numbers;
-mod sending;
 
 fn fields(
     call: u8,
@@ -23,9 +21,9 @@ fn fields(
     size_length: u8,
     p2: u32,
     star: u32,
-    limit: u32,
+    overall: u32,
 ) -> Header
-    ensures { λ r. ⌜ said r ≡ fields call flags value sub «address_length» «size_length» p2 star limit ⌝ }
+    ensures { λ r. ⌜ said r ≡ fields call flags value sub «address_length» «size_length» p2 star overall ⌝ }
 {
     Header {
         version: 1,
@@ -45,7 +43,7 @@ fn fields(
         total: 0,
         p2,
         star,
-        limit,
+        overall,
     }
 }
 
@@ -89,14 +87,14 @@ pub extern "C" fn bintrochis_call(
     size_length: u8,
     p2: u32,
     p2_star: u32,
-    limit: u32,
+    overall: u32,
     arguments: &[u8],
     request: &mut [u8],
     events: &[u8],
     replies: &[u8],
     answer: &mut [u64; 15],
 ) -> u8
-    ensures { λ r. ⌜ InBytes (fields call flags value sub «address_length» «size_length» p2 «p2_star» limit) (now (arguments .entry)) (lentOf (now (request .entry)) (now (events .entry)) (now (replies .entry))) (now (answer .entry)) r (now (request .exit)) (now (answer .exit)) ⌝ }
+    ensures { λ r. ⌜ InBytes (fields call flags value sub «address_length» «size_length» p2 «p2_star» overall) (now (arguments .entry)) (lentOf (now (request .entry)) (now (events .entry)) (now (replies .entry))) (now (answer .entry)) r (now (request .exit)) (now (answer .exit)) ⌝ }
 {
     let h = fields(
         call,
@@ -107,9 +105,9 @@ pub extern "C" fn bintrochis_call(
         size_length,
         p2,
         p2_star,
-        limit,
+        overall,
     );
-    let Asked::Sound(ask) = ask_of(h) else {
+    let Fields::Ask(ask) = ask_of(h) else {
         return 1;
     };
     if !fits(h, arguments.len()) {
@@ -120,11 +118,9 @@ pub extern "C" fn bintrochis_call(
     let address = part(arguments, 0, at_size);
     let size = part(arguments, at_size, size_length as usize);
     let data = part(arguments, at_data, arguments.len());
-    let session = Session { p2, star: p2_star };
-    let call = ask.call;
-    let long = sent_length(call, address.len(), size.len(), ask.present, data.len());
-    let x = calls::run(session, ask, request, address, size, data, events, replies);
-    *answer = numbers(x, long);
+    let session = Timing { p2, star: p2_star };
+    let x = calls::in_session(session, ask, request, address, size, data, events, replies);
+    *answer = numbers(x);
     0
 }
 
@@ -140,28 +136,26 @@ pub extern "C" fn bintrochis_call_alfid(
     size_width: usize,
     p2: u32,
     p2_star: u32,
-    limit: u32,
+    overall: u32,
     data: &[u8],
     request: &mut [u8],
     events: &[u8],
     replies: &[u8],
     answer: &mut [u64; 15],
 ) -> u8
-    ensures { λ r. ⌜ InNumbers (fields call flags value 0 0 0 p2 «p2_star» limit) address size «address_width» «size_width» (now («data» .entry)) (lentOf (now (request .entry)) (now (events .entry)) (now (replies .entry))) (now (answer .entry)) r (now (request .exit)) (now (answer .exit)) ⌝ }
+    ensures { λ r. ⌜ InNumbers (fields call flags value 0 0 0 p2 «p2_star» overall) address size «address_width» «size_width» (now («data» .entry)) (lentOf (now (request .entry)) (now (events .entry)) (now (replies .entry))) (now (answer .entry)) r (now (request .exit)) (now (answer .exit)) ⌝ }
 {
-    let h = fields(call, flags, value, 0, 0, 0, p2, p2_star, limit);
+    let h = fields(call, flags, value, 0, 0, 0, p2, p2_star, overall);
     if !has_alfid(call) {
         return 1;
     }
-    let Asked::Sound(ask) = ask_of(h) else {
+    let Fields::Ask(ask) = ask_of(h) else {
         return 1;
     };
     if !fits(h, data.len()) {
         return 1;
     }
-    let session = Session { p2, star: p2_star };
-    let call = ask.call;
-    let long = sent_length(call, address_width, size_width, ask.present, data.len());
+    let session = Timing { p2, star: p2_star };
     let x = calls::run_alfid(
         session,
         ask,
@@ -174,6 +168,6 @@ pub extern "C" fn bintrochis_call_alfid(
         events,
         replies,
     );
-    *answer = numbers(x, long);
+    *answer = numbers(x);
     0
 }

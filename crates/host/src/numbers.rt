@@ -1,13 +1,13 @@
 // An answer as fifteen numbers.
 use calls::Answered;
+use exchange::error::Fault;
 use exchange::error::Maximum;
 use exchange::error::ProtocolDeviation;
+use exchange::error::deviation_number;
 use exchange::types::Outcome;
-ghost use mathlib.Core.Bool.{cond};
 ghost use mathlib.Core.List.{List};
 ghost use mathlib.Core.Path.{_≡_};
 ghost use Prim.Native.Nat.{ℕ};
-ghost use lib.Dec.{eqb};
 ghost use Rattle.rules.specs.Answers.{fault};
 ghost use Rattle.exchange.specs.Meaning.{outcomeOf, deviationOf, maximumOf};
 ghost use Rattle.exchange.specs.Places.{InsideOutcome};
@@ -45,18 +45,11 @@ fn upper(maximum: Maximum) -> u64
     }
 }
 
-// "Deviations are numbered 1 to 15 in the order of `ProtocolDeviation`"
+// Deviation 8 has bounds.
 fn deviation(deviation: ProtocolDeviation) -> Values
     ensures { λ r. ⌜ r ≡ valuesOf (fault (deviationOf deviation)) ⌝ }
 {
     match deviation {
-        ProtocolDeviation::InvalidServiceId => plain(6, 1),
-        ProtocolDeviation::InvalidRequestServiceId => plain(6, 2),
-        ProtocolDeviation::InvalidSubFunction => plain(6, 3),
-        ProtocolDeviation::UnexpectedPositiveResponse => plain(6, 4),
-        ProtocolDeviation::InvalidDataIdentifier => plain(6, 5),
-        ProtocolDeviation::InvalidRoutineIdentifier => plain(6, 6),
-        ProtocolDeviation::InvalidBlockSequenceCounter => plain(6, 7),
         ProtocolDeviation::InvalidResponseLength(least, most) => Values {
             outcome: 6,
             detail: 8,
@@ -65,13 +58,7 @@ fn deviation(deviation: ProtocolDeviation) -> Values
             at: 0,
             len: 0,
         },
-        ProtocolDeviation::InvalidLengthFormat => plain(6, 9),
-        ProtocolDeviation::InvalidLengthFormatIdentifier => plain(6, 10),
-        ProtocolDeviation::InvalidMaxNumberOfBlockLength => plain(6, 11),
-        ProtocolDeviation::InvalidAddressAndLengthFormatIdentifier => plain(6, 12),
-        ProtocolDeviation::InvalidMemoryAddress => plain(6, 13),
-        ProtocolDeviation::InvalidMemorySize => plain(6, 14),
-        ProtocolDeviation::InvalidMemoryRecordLength => plain(6, 15),
+        _ => plain(6, deviation_number(deviation) as u64),
     }
 }
 
@@ -92,27 +79,22 @@ fn told(outcome: Outcome) -> Values
         Outcome::Timeout => plain(3, 0),
         Outcome::Disconnected => plain(4, 0),
         Outcome::Transport(number) => plain(5, number as u64),
-        Outcome::ProtocolDeviation(d) => deviation(d),
-        Outcome::InvalidResponseLength => plain(7, 0),
-        Outcome::BlockLengthOverflow => plain(8, 0),
+        Outcome::Fault(fault) => match fault {
+            Fault::ProtocolDeviation(d) => deviation(d),
+            Fault::InvalidResponseLength => plain(7, 0),
+            Fault::BlockLengthOverflow => plain(8, 0),
+        },
         Outcome::Refused(number) => plain(9, number as u64),
     }
 }
 
-fn unless_refused(outcome: u64, long: u64) -> u64
-    ensures { λ r. ⌜ r ≡ cond (eqb outcome 9) 0 long ⌝ }
-{
-    if outcome == 9 { 0 } else { long }
-}
-
-// `long`: how many bytes the request has.
-pub(crate) fn numbers(x: Answered, long: u64) -> [u64; 15]
-    ensures { λ r. ⌜ Tells x long r ⌝ }
+pub(crate) fn numbers(x: Answered) -> [u64; 15]
+    ensures { λ r. ⌜ Tells x r ⌝ }
 {
     let answer = x.answer;
     let outcome = answer.outcome;
     let reply = answer.reply;
-    let session = x.session;
+    let timing = x.timing;
     let v = told(outcome);
     [
         v.outcome,
@@ -127,8 +109,8 @@ pub(crate) fn numbers(x: Answered, long: u64) -> [u64; 15]
         reply.at as u64,
         reply.len as u64,
         x.number,
-        session.p2 as u64,
-        session.star as u64,
-        unless_refused(v.outcome, long),
+        timing.p2 as u64,
+        timing.star as u64,
+        x.sent as u64,
     ]
 }

@@ -3,4 +3,4 @@ pub mod Writing
 pub mod Numerals
 pub mod Lines
 pub mod Layouts
-pub mod Readings
+pub mod Walking

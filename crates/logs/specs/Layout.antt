@@ -2,7 +2,6 @@
 use Prim.Native.Nat.{ℕ, _+_, _-_}
 use mathlib.Core.List.{List}
 use lib.ListN.{drop}
-use Rattle.rules.specs.Events.{Entry}
 use Rattle.rules.specs.Logs as Logs
 use Rattle.logs.specs.declared.header.Header.{Header}
 use Rattle.logs.specs.declared.layout.Uses.{Uses}
@@ -26,7 +25,7 @@ said h = record {
   total = h .total;
   p2 = h .p2;
   star = h .star;
-  limit = h .limit;
+  overall = h .overall;
 }
 
 -- The header at a place of a log.
@@ -36,33 +35,7 @@ headerAt l at = Logs.headerOf (drop at l)
 abbrev pub meant : Uses → Logs.Uses
 meant u = Logs.uses (u .0) (u .1) (u .2) (u .3) (u .4) (u .5)
 
--- A header of which the places matter alone.
-abbrev pub placed : ℕ → ℕ → ℕ → ℕ → ℕ → ℕ → ℕ → Logs.Header
-placed arguments argumentsAt events eventsAt replies repliesAt total = record {
-  version = 0;
-  call = 0;
-  flags = 0;
-  value = 0;
-  sub = 0;
-  addressLength = 0;
-  sizeLength = 0;
-  unused = 0;
-  arguments = arguments;
-  argumentsAt = argumentsAt;
-  events = events;
-  eventsAt = eventsAt;
-  replies = replies;
-  repliesAt = repliesAt;
-  total = total;
-  p2 = 0;
-  star = 0;
-  limit = 0;
-}
-
-abbrev pub entry : ℕ → ℕ → ℕ → ℕ → Entry
-entry time kind offset size = record { time = time; kind = kind; offset = offset; size = size }
-
 -- The argument bytes behind address and size, whatever flag 32 says.
 abbrev pub dataBytes : Logs.Header → List ℕ → List ℕ
 dataBytes h l =
-    Logs.area l (36 + h .addressLength + h .sizeLength) (h .arguments - (h .addressLength + h .sizeLength))
+    Logs.area l (Logs.headerSize + h .addressLength + h .sizeLength) (h .arguments - (h .addressLength + h .sizeLength))

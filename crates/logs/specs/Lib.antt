@@ -1,4 +1,3 @@
 -- What the contracts of `logs` cite besides `rules`.
 pub mod Text
 pub mod Layout
-pub mod Reading

@@ -1,19 +1,20 @@
 // The layout of a log: a sound one, or "any other layout".
+use crate::header::HEADER_SIZE;
 use crate::header::Header;
-use crate::header::area;
-use crate::header::two;
-use crate::reader::read_header;
+use crate::reader::read_area;
+use exchange::events::EVENT_SIZE;
+use exchange::events::event_at;
+use exchange::types::Event;
 ghost use mathlib.Core.Path.{_≡_};
-ghost use mathlib.Core.Bool.{_&&_};
 ghost use Prim.Native.Nat.{_-_};
-ghost use lib.Dec.{eqb};
 ghost use Rattle.rules.specs.Bytes.{every};
 ghost use Rattle.rules.specs.Events.{entries};
-ghost use Rattle.rules.specs.Logs.{usesOf, fieldsOk, areasOk, eventOk, layoutOk, all, area, eventBytes, addressOf, sizeOf};
+ghost use Rattle.rules.specs.Logs.{usesOf, all, fieldsOk, areasOk, eventOk, eventBytes, replyBytes, laidOut, addressOf, sizeOf};
 ghost use Rattle.rules.specs.Calls.{given};
-ghost use Rattle.logs.specs.Layout.{said, meant, placed, entry, dataBytes};
+ghost use Rattle.exchange.specs.Meaning.{entryOf};
+ghost use Rattle.logs.specs.Layout.{said, meant, dataBytes};
 
-// What a call uses, a row of `table` of `rules`: the largest value, sub and lengths, whether flag 16 is its own, and whether data may and must be present.
+// What a call uses, a row of `usesByCall` of `rules`: the largest value, sub and lengths, whether flag 16 is its own, and whether data may and must be present.
 struct Uses(u16, u8, u8, u8, u8, u8);
 
 fn uses_of(call: u8) -> Uses
@@ -76,7 +77,7 @@ fn fields_ok(h: Header, u: Uses) -> bool
         address <= lengths,
         size <= lengths,
         h.unused == 0,
-        h.limit <= (flags / 8 % 2) as u32 * 4294967295,
+        h.overall <= (flags / 8 % 2) as u32 * 4294967295,
         both <= arguments,
         arguments <= both + (flags / 32 % 2) as u32 * 65535,
     ];
@@ -91,59 +92,35 @@ pub fn suits(h: Header) -> bool
 }
 
 // "The areas follow in that order, no gaps", in a log of n bytes.
-fn areas_fit(
-    arguments: u16,
-    arguments_at: u16,
-    events: u16,
-    events_at: u16,
-    replies: u16,
-    replies_at: u16,
-    total: u16,
-    n: usize,
-) -> bool
-    ensures { λ r. ⌜ r ≡ areasOk (placed arguments «arguments_at» events «events_at» replies «replies_at» total) n ⌝ }
+fn areas_ok(h: Header, n: usize) -> bool
+    ensures { λ r. ⌜ r ≡ areasOk (said h) n ⌝ }
 {
+    // each read once: every read of a field brings the bounds of all eighteen into the proof
+    let arguments = h.arguments;
+    let arguments_at = h.arguments_at;
+    let events = h.events;
+    let events_at = h.events_at;
+    let replies = h.replies;
+    let replies_at = h.replies_at;
+    let total = h.total;
     let tests = [
-        arguments_at == 36,
-        events_at as u32 == 36 + arguments as u32,
-        replies_at as u32 == events_at as u32 + events as u32 * 10,
-        total as u32 == replies_at as u32 + replies as u32,
+        arguments_at as usize == HEADER_SIZE,
+        events_at as usize == HEADER_SIZE + arguments as usize,
+        replies_at as usize == events_at as usize + events as usize * EVENT_SIZE,
+        total as usize == replies_at as usize + replies as usize,
         total as usize == n,
     ];
     all(&tests)
 }
 
-fn areas_ok(h: Header, n: usize) -> bool
-    ensures { λ r. ⌜ r ≡ areasOk (said h) n ⌝ }
-{
-    areas_fit(
-        h.arguments,
-        h.arguments_at,
-        h.events,
-        h.events_at,
-        h.replies,
-        h.replies_at,
-        h.total,
-        n,
-    )
-}
-
-fn neither(a: u16, b: u16) -> bool
-    ensures { λ r. ⌜ r ≡ (eqb a 0 && eqb b 0) ⌝ }
-{
-    if a != 0 {
-        return false;
-    }
-    b == 0
-}
-
 // "kind 3 puts its number in length"; "an event of unknown kind has no unused field"
-fn event_ok(kind: u16, offset: u16, size: u16) -> bool
-    ensures { λ r. ⌜ r ≡ eventOk (entry 0 kind offset size) ⌝ }
+fn event_ok(event: Event) -> bool
+    ensures { λ r. ⌜ r ≡ eventOk (entryOf event) ⌝ }
 {
+    let kind = event.kind;
     match kind {
-        1 | 2 => neither(offset, size),
-        3 => offset == 0,
+        1 | 2 => event.offset == 0 && event.size == 0,
+        3 => event.offset == 0,
         _ => true,
     }
 }
@@ -151,15 +128,10 @@ fn event_ok(kind: u16, offset: u16, size: u16) -> bool
 fn events_ok(events: &[u8]) -> bool
     ensures { λ r. ⌜ r ≡ every eventOk (entries (now (events .entry))) ⌝ }
 {
-    let n = events.len() / 10;
+    let n = events.len() / EVENT_SIZE;
     let mut i = 0;
     while i < n {
-        let at = i * 10;
-        if !event_ok(
-            two(events, at + 4),
-            two(events, at + 6),
-            two(events, at + 8),
-        ) {
+        if !event_ok(event_at(events, i)) {
             return false;
         }
         i += 1;
@@ -167,30 +139,34 @@ fn events_ok(events: &[u8]) -> bool
     true
 }
 
-// "The areas follow in that order": where the events stand, ten bytes each.
+// "The areas follow in that order": the events, and the replies behind them.
 pub fn events_of<'a>(log: &'a [u8], h: Header) -> &'a [u8]
     ensures { λ r. ⌜ now r ≡ eventBytes (said h) (now (log .entry)) ⌝ }
 {
-    area(log, h.events_at as usize, h.events as usize * 10)
+    read_area(log, h.events_at as usize, h.events as usize * EVENT_SIZE)
 }
 
 pub fn replies_of<'a>(log: &'a [u8], h: Header) -> &'a [u8]
-    ensures { λ r. ⌜ now r ≡ area (now (log .entry)) (h .«replies_at») (h .replies) ⌝ }
+    ensures { λ r. ⌜ now r ≡ replyBytes (said h) (now (log .entry)) ⌝ }
 {
-    area(log, h.replies_at as usize, h.replies as usize)
+    read_area(log, h.replies_at as usize, h.replies as usize)
 }
 
 // "Arguments are address, size, data."
 pub fn address_of<'a>(log: &'a [u8], h: Header) -> &'a [u8]
     ensures { λ r. ⌜ given (now r) ≡ addressOf (said h) (now (log .entry)) ⌝ }
 {
-    area(log, 36, h.address_length as usize)
+    read_area(log, HEADER_SIZE, h.address_length as usize)
 }
 
 pub fn size_of<'a>(log: &'a [u8], h: Header) -> &'a [u8]
     ensures { λ r. ⌜ given (now r) ≡ sizeOf (said h) (now (log .entry)) ⌝ }
 {
-    area(log, 36 + h.address_length as usize, h.size_length as usize)
+    read_area(
+        log,
+        HEADER_SIZE + h.address_length as usize,
+        h.size_length as usize,
+    )
 }
 
 fn less(n: usize, k: usize) -> usize
@@ -205,19 +181,17 @@ pub fn data_of<'a>(log: &'a [u8], h: Header) -> &'a [u8]
 {
     let a = h.address_length as usize;
     let s = h.size_length as usize;
-    area(log, 36 + a + s, less(h.arguments as usize, a + s))
+    read_area(log, HEADER_SIZE + a + s, less(h.arguments as usize, a + s))
 }
 
-// Whether the log's layout is sound.
-pub fn layout_ok(log: &[u8]) -> bool
-    ensures { λ r. ⌜ r ≡ layoutOk (now (log .entry)) ⌝ }
+// Every test of the layout but that the fields suit the call.
+pub fn laid_out(log: &[u8], h: Header) -> bool
+    ensures { λ r. ⌜ r ≡ laidOut (said h) (now (log .entry)) ⌝ }
 {
-    let h = read_header(log);
     let tests = [
-        36 <= log.len(),
+        HEADER_SIZE <= log.len(),
         h.version == 1,
         h.call <= 14,
-        suits(h),
         areas_ok(h, log.len()),
         events_ok(events_of(log, h)),
     ];

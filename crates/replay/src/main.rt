@@ -69,7 +69,7 @@ fn replay_one(logs: i32, lines: i32) -> Replayed {
         return Replayed::Wrong;
     }
     let mut line = [0u8; LONGEST];
-    match report::answer(part(&log, 0, len), &mut line) {
+    match log_line::line_of(part(&log, 0, len), &mut line) {
         Written::Line(m) => {
             if check::same(part(&line, 0, m), part(&expected, 0, n)) {
                 Replayed::Right

@@ -1,6 +1,7 @@
--- Laws of `requests`; the crates above cite `Callers` and `Refusals`.
+-- Laws of `requests`; the crates above cite `Callers`, `Refusals` and `Table`.
 pub mod Judging
 pub mod Refusals
-pub mod Callers
+pub mod Table
 pub mod Parts
 pub mod Requests
+pub mod Callers

@@ -5,9 +5,8 @@ use mathlib.Core.List.{List, [], _++_, append-nil}
 use mathlib.Core.Path.{_≡_, refl, sym, ap, _∙_}
 use lib.Dec.{leb}
 use borrow.Author.Tests.{leb-true}
-use Rattle.rules.specs.Calls as rules
-use Rattle.rules.specs.Calls.{parameters, given, format}
-use Rattle.rules.specs.Checks.{judge}
+use Rattle.rules.specs.Calls.{given, format}
+use Rattle.rules.specs.InOrder.{judge}
 use Rattle.rules.specs.Refusals as refusals
 use Rattle.wire.specs.Methods.{compression, encryption, dataFormat}
 use Rattle.wire.specs.declared.types.Compression.{Compression}
@@ -15,16 +14,19 @@ use Rattle.wire.specs.declared.types.Compression.the-variants as compressions
 use Rattle.wire.specs.declared.types.Encryption.{Encryption}
 use Rattle.wire.specs.declared.types.Encryption.the-variants as encryptions
 use Rattle.wire.proofs.Methods.{format-of-nibbles}
-use Rattle.requests.specs.Meaning.{callOf}
-use Rattle.requests.specs.Parameters.{methods, lengths, memory, load, sent, numbersOf}
-use Rattle.requests.specs.declared.calls.Call.{Call}
-use Rattle.requests.specs.declared.calls.Call.the-variants as call
+use Rattle.rules.proofs.Judging.{judge-append, judge-under}
+use Rattle.requests.specs.declared.Data.{Data}
+use Rattle.requests.specs.declared.Data.the-variants.{Absent, Present}
+use Rattle.requests.specs.declared.rows.Numbers.the-variants.{One, Two}
+use Rattle.requests.specs.declared.rows.Takes.{Takes}
+use Rattle.requests.specs.declared.rows.Takes.the-variants.{Plain, Key, Memory, Load}
 use Rattle.requests.specs.declared.parameters.Format.{Format}
 use Rattle.requests.specs.declared.parameters.Format.the-variants as formats
-use Rattle.requests.specs.declared.parameters.Numbers.the-variants.{One, Two}
 use Rattle.requests.specs.declared.parameters.Parameters.{Parameters}
 use Rattle.requests.specs.declared.parameters.Parameters.the-variants.{Sent, Refused}
-use Rattle.requests.proofs.Judging.{judge-append, judge-under}
+use Rattle.requests.specs.Meaning.{dataBytes}
+use Rattle.requests.specs.Parameters.{methods, lengths, memory, load, numbersBy, dataBy}
+use Rattle.requests.specs.Rows.{numbersOf, taken, takesMemory}
 
 -- The data format byte, by what `new` says of each method.
 abbrev pub joined : Compression → Encryption → Format
@@ -41,41 +43,23 @@ methods-of c e = go (leb c 15) (leb e 15) refl refl
     go true false u v = refl
     go false q u v = refl
 
-pub memory-of : (a s : List ℕ) (d : Bool) → memory (lengths a s) d ≡ judge Refused (refusals.lengths (given a) (given s)) (Sent (One (format (given a) (given s))) true d)
+pub memory-of : (a s : List ℕ) (d : Data) → memory (lengths a s) d ≡ judge Refused (refusals.lengths (given a) (given s)) (Sent (One (format (given a) (given s))) true d)
 memory-of a s d = judge-under (λ f. memory f d) formats.Refused (refusals.lengths (given a) (given s)) (formats.Byte (format (given a) (given s)))
 
-pub load-of : (c e : ℕ) (a s : List ℕ) → load (methods c e) (lengths a s) ≡ judge Refused (refusals.methods c e ++ refusals.lengths (given a) (given s)) (Sent (Two (c * 16 + e) (format (given a) (given s))) true false)
+pub load-of : (c e : ℕ) (a s : List ℕ) → load (methods c e) (lengths a s) ≡ judge Refused (refusals.methods c e ++ refusals.lengths (given a) (given s)) (Sent (Two (c * 16 + e) (format (given a) (given s))) true Absent)
 load-of c e a s =
     let m = c * 16 + e in
     let f = format (given a) (given s) in
     let sizes = refusals.lengths (given a) (given s) in
     judge-under (λ x. load x (lengths a s)) formats.Refused (refusals.methods c e) (formats.Byte m) ∙
     ap (λ (x : Parameters). judge Refused (refusals.methods c e) x) (judge-under (λ x. load (formats.Byte m) x) formats.Refused sizes (formats.Byte f)) ∙
-    sym (judge-append Refused (refusals.methods c e) sizes (Sent (Two m f) true false))
+    sym (judge-append Refused (refusals.methods c e) sizes (Sent (Two m f) true Absent))
 
--- These parameters, with address, size and data behind them, are the call's.
-abbrev pub Says : rules.Call → List ℕ → List ℕ → List ℕ → Parameters → Type 0
-Says c a s d (Sent ns m w) = parameters c ≡ numbersOf ns ++ cond m a [] ++ cond m s [] ++ cond w d []
-Says c a s d (Refused n) = ⊥
-
-pub says : (k : Call) (a s : List ℕ) (p : Bool) (d : List ℕ) → Says (callOf k a s p d) a s d (sent k (format (given a) (given s)) p)
-says (call.Request sid sub) a s true d = refl
-says (call.Request sid sub) a s false d = refl
-says (call.DiagnosticSessionControl sub) a s p d = refl
-says (call.EcuReset sub) a s p d = refl
-says (call.SecurityAccess sub) a s true d = refl
-says (call.SecurityAccess sub) a s false d = refl
-says call.TesterPresent a s p d = refl
-says call.ReadMemoryByAddress a s p d = rw append-nil
-says call.WriteMemoryByAddress a s p d = refl
-says (call.ReadDataByIdentifier id) a s p d = refl
-says (call.WriteDataByIdentifier id) a s p d = refl
-says (call.ReadDTCInformation mask) a s p d = refl
-says (call.RoutineControl sub id) a s true d = refl
-says (call.RoutineControl sub id) a s false d = refl
-says (call.RequestDownload c e) a s p d = rw append-nil
-says (call.RequestUpload c e) a s p d = rw append-nil
-says (call.TransferData counter) a s true d = refl
-says (call.TransferData counter) a s false d = refl
-says call.RequestTransferExit a s true d = refl
-says call.RequestTransferExit a s false d = refl
+-- The parameters of a row are its numbers with address, size and data behind them.
+module _ (a s d : List ℕ) where
+  pub parts : (t : Takes) → taken t (given a) (given s) d ≡ numbersOf (numbersBy t (format (given a) (given s))) ++ cond (takesMemory t) a [] ++ cond (takesMemory t) s [] ++ dataBytes (dataBy t) d
+  parts (Plain ns p) = rw (append-nil (numbersOf ns), append-nil (numbersOf ns))
+  parts (Key sub p) = refl
+  parts (Memory Absent) = rw append-nil
+  parts (Memory Present) = refl
+  parts (Load c e) = rw append-nil

@@ -8,39 +8,40 @@ use lib.Dec.{eqb}
 use lib.ListN.{length}
 use borrow.Author.Tests.{eq-eqb, ne-eqb}
 use Rattle.rules.specs.Calls.{Call, request, session, reset, security, testerPresent, readMemory, writeMemory, readIdentifier, writeIdentifier, faultCount, routine, download, upload, transfer, transferExit, Field, given, alfid, requestOf}
-use Rattle.rules.specs.Checks.{Check, unless, judge}
+use Rattle.rules.specs.InOrder.{Check, unless, judge}
 use Rattle.rules.specs.Events.{withinLimits}
 use Rattle.rules.specs.Refusals.{width, lengths, methods, arguments, refusals}
-use Rattle.requests.specs.Requests.{sizes, refusalOf}
-use Rattle.requests.proofs.Judging.{judge-append, Numbered, numbered-append, by-number}
+use Rattle.rules.proofs.Judging.{judge-append}
+use Rattle.requests.specs.Prepared.{sizes, refusalOf}
+use Rattle.requests.proofs.Judging.{NonZero, non-zero-append, by-number}
 
-pub numbered-width : (f : Field) → Numbered (width f)
-numbered-width (given bs) = tt
-numbered-width (alfid v w) = (refl, (refl, tt))
+pub non-zero-width : (f : Field) → NonZero (width f)
+non-zero-width (given bs) = tt
+non-zero-width (alfid v w) = (refl, (refl, tt))
 
-numbered-memory : (a s : Field) (cs : List (Check ℕ)) → Numbered cs → Numbered (width a ++ width s ++ cs)
-numbered-memory a s cs n = numbered-append (width a ++ width s) cs (numbered-append (width a) (width s) (numbered-width a) (numbered-width s)) n
+non-zero-memory : (a s : Field) (cs : List (Check ℕ)) → NonZero cs → NonZero (width a ++ width s ++ cs)
+non-zero-memory a s cs n = non-zero-append (width a ++ width s) cs (non-zero-append (width a) (width s) (non-zero-width a) (non-zero-width s)) n
 
-numbered-load : (c e : ℕ) (a s : Field) → Numbered (width a ++ width s ++ methods c e ++ lengths a s)
-numbered-load c e a s = numbered-append (width a ++ width s ++ methods c e) (lengths a s) (numbered-memory a s (methods c e) (refl, (refl, tt))) (refl, (refl, tt))
+non-zero-load : (c e : ℕ) (a s : Field) → NonZero (width a ++ width s ++ methods c e ++ lengths a s)
+non-zero-load c e a s = non-zero-append (width a ++ width s ++ methods c e) (lengths a s) (non-zero-memory a s (methods c e) (refl, (refl, tt))) (refl, (refl, tt))
 
-pub numbered-arguments : (c : Call) → Numbered (arguments c)
-numbered-arguments (request sid sub d) = tt
-numbered-arguments (session sub) = tt
-numbered-arguments (reset sub) = tt
-numbered-arguments (security sub none) = (refl, tt)
-numbered-arguments (security sub (some d)) = tt
-numbered-arguments testerPresent = tt
-numbered-arguments (readMemory a s) = numbered-memory a s (lengths a s) (refl, (refl, tt))
-numbered-arguments (writeMemory a s d) = numbered-memory a s (lengths a s) (refl, (refl, tt))
-numbered-arguments (readIdentifier id) = tt
-numbered-arguments (writeIdentifier id d) = tt
-numbered-arguments (faultCount mask) = tt
-numbered-arguments (routine sub id d) = tt
-numbered-arguments (download c e a s) = numbered-load c e a s
-numbered-arguments (upload c e a s) = numbered-load c e a s
-numbered-arguments (transfer counter d) = tt
-numbered-arguments (transferExit d) = tt
+pub non-zero-arguments : (c : Call) → NonZero (arguments c)
+non-zero-arguments (request sid sub d) = tt
+non-zero-arguments (session sub) = tt
+non-zero-arguments (reset sub) = tt
+non-zero-arguments (security sub none) = (refl, tt)
+non-zero-arguments (security sub (some d)) = tt
+non-zero-arguments testerPresent = tt
+non-zero-arguments (readMemory a s) = non-zero-memory a s (lengths a s) (refl, (refl, tt))
+non-zero-arguments (writeMemory a s d) = non-zero-memory a s (lengths a s) (refl, (refl, tt))
+non-zero-arguments (readIdentifier id) = tt
+non-zero-arguments (writeIdentifier id d) = tt
+non-zero-arguments (faultCount mask) = tt
+non-zero-arguments (routine sub id d) = tt
+non-zero-arguments (download c e a s) = non-zero-load c e a s
+non-zero-arguments (upload c e a s) = non-zero-load c e a s
+non-zero-arguments (transfer counter d) = tt
+non-zero-arguments (transferExit d) = tt
 
 -- Document 01's judgement of a call, of which `refusal` answers n: `wrong` takes a refusal's number, x is the answer of a call that is not refused.
 module _ {B : Type 0} (wrong : ℕ → B) (quiet : Bool) (c : Call) (buffer events replies : List ℕ) (x : B) (n : ℕ) (told : n ≡ refusalOf quiet c (length buffer)) where
@@ -55,7 +56,7 @@ module _ {B : Type 0} (wrong : ℕ → B) (quiet : Bool) (c : Call) (buffer even
       let ten = unless {A = ℕ} (withinLimits events replies) 10 ∷ [] in
       ap (λ (cs : List (Check ℕ)). judge wrong cs x) (sym (append-assoc (arguments c) size ten)) ∙
       judge-append wrong early ten x ∙
-      by-number wrong early (judge wrong ten x) (numbered-append (arguments c) size (numbered-arguments c) (refl, (refl, tt))) ∙
+      by-number wrong early (judge wrong ten x) (non-zero-append (arguments c) size (non-zero-arguments c) (refl, (refl, tt))) ∙
       rw told
 
   pub refused : (n ≡ 0 → ⊥) → judged ≡ wrong n

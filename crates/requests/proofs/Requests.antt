@@ -1,31 +1,38 @@
--- The pieces of a request in the buffer, and what a call is refused with by what `arguments` says of it.
+-- The pieces of a request in the buffer, and what a call prepares by what `arguments` says of it.
 use Prim.Native.Nat.{ℕ, _+_, _-_, _≤_, _<_}
 use native.Mathlib.Omega.{arith}
 use mathlib.Core.Bool.{Bool, true, false, cond}
 use mathlib.Core.List.{List, [], _∷_, _++_, append-assoc}
 use mathlib.Core.Logic.{inl, inr}
-use mathlib.Core.Path.{_≡_, refl, sym, ap, subst, _∙_}
+use mathlib.Core.Path.{_≡_, refl, sym, ap, _∙_}
 use lib.Dec.{leb, eqb}
 use lib.ListN.{length, take, drop, replicate, length-append, length-drop}
 use lib.Seq.{take-at, drop-append-add, drop-drop, take-append-seam}
-use borrow.Author.Tests.{le-leb, lt-leb, leb-true}
+use borrow.Author.Tests.{le-leb, lt-leb, leb-true, eq-eqb, ne-eqb}
+use Rattle.exchange.specs.declared.types.SubFunction.{SubFunction}
+use Rattle.exchange.specs.Meaning.{subOf}
 use Rattle.rules.specs.Calls as rules
-use Rattle.rules.specs.Calls.{requestOf, sidOf, byte, withBit7, given, format}
+use Rattle.rules.specs.Calls.{requestOf, byte, given, format}
+use Rattle.rules.specs.InOrder.{judge}
 use Rattle.rules.specs.Refusals.{arguments}
-use Rattle.rules.proofs.Judging.{by-test}
+use Rattle.rules.proofs.Judging.{by-test, judge-append}
 use Rattle.wire.specs.Buffers.{with}
-use Rattle.requests.specs.Meaning.{callOf}
-use Rattle.requests.specs.Parameters.{sent, argumentsOf, numbersOf, openingOf, headOf}
-use Rattle.requests.specs.Requests.{bare, first, sizes, refusalOf, over, Written}
+use Rattle.requests.specs.declared.Call.{Call}
+use Rattle.requests.specs.declared.Data.{Data}
 use Rattle.requests.specs.declared.Head.{Head}
-use Rattle.requests.specs.declared.calls.Call.{Call}
-use Rattle.requests.specs.declared.parameters.Numbers.{Numbers}
-use Rattle.requests.specs.declared.parameters.Parameters.{Parameters}
+use Rattle.requests.specs.declared.Prepared.{Prepared}
+use Rattle.requests.specs.declared.rows.Numbers.{Numbers}
+use Rattle.requests.specs.declared.rows.Row.{Row}
+use Rattle.requests.specs.declared.rows.Takes.{Takes}
 use Rattle.requests.specs.declared.parameters.Parameters.the-variants.{Sent, Refused}
-use Rattle.requests.proofs.Callers.{lead}
-use Rattle.requests.proofs.Judging.{judge-append, by-number}
-use Rattle.requests.proofs.Parts.{Says, says}
-use Rattle.requests.proofs.Refusals.{numbered-arguments}
+use Rattle.requests.specs.Meaning.{callOf, dataBytes}
+use Rattle.requests.specs.Parameters.{numbersBy, dataBy, sentBy, argumentsOf, bit7, openingOf, padded, headOf}
+use Rattle.requests.specs.Prepared.{first, sizes, over, refusedWith, readyOf, preparedOf, piecesOf, Written}
+use Rattle.requests.specs.Rows.{rowOf, numbersOf, refusing, takesMemory}
+use Rattle.requests.proofs.Judging.{by-number}
+use Rattle.requests.proofs.Parts.{parts}
+use Rattle.requests.proofs.Refusals.{non-zero-arguments}
+use Rattle.requests.proofs.Table.{same-row, sub-is, sent-sub, same-arguments}
 
 -- Refusals 8 and 9 of a request of n bytes.
 module _ (n room : ℕ) where
@@ -37,6 +44,13 @@ module _ (n room : ℕ) where
 
   pub fits : n ≤ 4095 → n ≤ room → 0 ≡ first (sizes n room)
   fits h k = rw (le-leb n 4095 h, le-leb n room k)
+
+  pub no-longer : 0 ≡ first (sizes n room) → n ≤ 4095
+  no-longer = go (leb n 4095) (leb n room) refl
+    where
+      go : (p q : Bool) → leb n 4095 ≡ p → _≡_ {A = ℕ} 0 (cond p (cond q 0 9) 8) → n ≤ 4095
+      go true q e h = leb-true n 4095 e
+      go false q e h = absurd (omega arith)
 
   pub room-for : 0 ≡ first (sizes n room) → n ≤ room
   room-for = go (leb n 4095) (leb n room) refl
@@ -65,80 +79,153 @@ module _ (b h a s d : List ℕ) {b₁ b₂ b₃ b₄ : List ℕ} (room : length 
 regroup : (h ns a s d : List ℕ) → h ++ (ns ++ a ++ s ++ d) ≡ h ++ ns ++ a ++ s ++ d
 regroup h ns a s d = simp append-assoc
 
--- A call, by what `arguments` says of it.
-module _ (k : Call) (a s : List ℕ) (p : Bool) (d : List ℕ) (quiet : Bool) where
+-- The request in the pieces that the code has: head, address, size and data.
+module _ (k : Call) (quiet : Bool) (a s d : List ℕ) where
   abbrev c : rules.Call
-  c = callOf k a s p d
+  c = callOf k a s d
 
-  abbrev sends : Parameters
-  sends = sent k (format (given a) (given s)) p
+  abbrev takes : Takes
+  takes = rowOf k .takes
 
-  -- Its refusal: of the arguments, and if there is none, of the size.
-  in-order : (room : ℕ) → refusalOf quiet c room ≡ cond (eqb (first (arguments c)) 0) (first (sizes (length (requestOf quiet c)) room)) (first (arguments c))
-  unfolding refusalOf
-  in-order room =
-      let size = sizes (length (requestOf quiet c)) room in
-      judge-append (λ n. n) (arguments c) size 0 ∙ by-number (λ n. n) (arguments c) (first size) (numbered-arguments c)
+  abbrev opens : List ℕ
+  opens = openingOf (rowOf k .sid) (bit7 quiet (rowOf k .sub)) (numbersBy takes (format (given a) (given s)))
 
-  by-arguments : {r : Parameters} → r ≡ argumentsOf k a s p d → cond (eqb (first (arguments c)) 0) sends (Refused (first (arguments c))) ≡ r
-  by-arguments e = sym (by-number Refused (arguments c) sends (numbered-arguments c)) ∙ sym e
-
-  pub refused-arguments : {n : ℕ} (room : ℕ) → Refused n ≡ argumentsOf k a s p d → (n ≡ refusalOf quiet c room) × (eqb n 0 ≡ false)
-  refused-arguments {n} room e =
-      elim (by-test (eqb (first (arguments c)) 0) (by-arguments e)) [
-        | inl h ↦ absurd (subst (Says c a s d) (h .1) (says k a s p d))
-        | inr h ↦ (let z : first (arguments c) ≡ n = cc in (sym (in-order room ∙ rw (h .0) z), rw (← z) (h .0)))
-      ]
-
-  passed : {ns : Numbers} {m w : Bool} → Sent ns m w ≡ argumentsOf k a s p d → (eqb (first (arguments c)) 0 ≡ true) × (sends ≡ Sent ns m w)
-  passed e =
-      elim (by-test (eqb (first (arguments c)) 0) (by-arguments e)) [
-        | inl h ↦ h
-        | inr h ↦ absurd (let z : _≡_ {A = ℕ} 0 1 = cc in omega arith)
-      ]
-
-  pub unwritten : (before : List ℕ) {n : ℕ} → n ≡ refusalOf quiet c (length before) → eqb n 0 ≡ false → Written quiet c before false before
-  unwritten before e z = record { told = rw (← e) (sym z); buffer = refl }
-
--- A call whose arguments are not refused, in the pieces that the code has: head, address, size and data.
-pub record Pieces (k : Call) (a s : List ℕ) (p : Bool) (d : List ℕ) (quiet : Bool) (head : Head) (address size bytes : List ℕ) : Type 0 where
-  pub numbers : Numbers
-  pub memory : Bool
-  pub with-data : Bool
-  pub parameters : Sent numbers memory with-data ≡ argumentsOf k a s p d
-  pub is-head : head ≡ headOf (openingOf k quiet numbers)
-  pub is-address : address ≡ cond memory a []
-  pub is-size : size ≡ cond memory s []
-  pub is-data : bytes ≡ cond with-data d []
-
-module _ {k : Call} {a s : List ℕ} {p : Bool} {d : List ℕ} {quiet : Bool} {h : Head} {a′ s′ d′ : List ℕ} (x : Pieces k a s p d quiet h a′ s′ d′) where
-  abbrev request : List ℕ
-  request = requestOf quiet (callOf k a s p d)
-
-  whole : request ≡ openingOf k quiet (x .numbers) ++ a′ ++ s′ ++ d′
+  pub whole : requestOf quiet c ≡ opens ++ cond (takesMemory takes) a [] ++ cond (takesMemory takes) s [] ++ dataBytes (dataBy takes) d
   whole =
-      let opens = sidOf (bare k) ∷ byte (withBit7 quiet (rules.subOf (bare k))) in
-      let l = lead k a s p d in
-      let says-so = subst (Says (callOf k a s p d) a s d) (passed k a s p d quiet (x .parameters) .1) (says k a s p d) in
-      rw (l .0, l .1, says-so, x .is-address, x .is-size, x .is-data) (regroup opens (numbersOf (x .numbers)) (cond (x .memory) a []) (cond (x .memory) s []) (cond (x .with-data) d []))
+      let sub = bit7 quiet (rowOf k .sub) in
+      let row = same-row (given a) (given s) d k in
+      rw (
+        ap (λ r. r .sid) row,
+        sub-is (given a) (given s) d k,
+        ← sent-sub quiet (rowOf k .sub),
+        ap (λ r. r .parameters) row,
+        parts a s d takes,
+      )
+      (regroup (rowOf k .sid ∷ byte (subOf sub)) (numbersOf (numbersBy takes (format (given a) (given s)))) (cond (takesMemory takes) a []) (cond (takesMemory takes) s []) (dataBytes (dataBy takes) d))
 
-  sized : length request ≡ h .0 + length a′ + length s′ + length d′
-  sized = ap length whole ∙ rw (x .is-head) (simp length-append)
+  -- Its pieces are its bytes.
+  pub pieces : piecesOf (readyOf k quiet a s d) a s d ≡ requestOf quiet c
+  pieces =
+      let front : take (length opens) (padded opens) ≡ opens = take-append-seam opens (replicate (4 - length opens) 0) in
+      ap (λ (f : List ℕ). f ++ cond (takesMemory takes) a [] ++ cond (takesMemory takes) s [] ++ dataBytes (dataBy takes) d) front ∙ sym whole
 
-  pub by-size : {n : ℕ} (room : ℕ) → n ≡ first (sizes (h .0 + length a′ + length s′ + length d′) room) → n ≡ refusalOf quiet (callOf k a s p d) room
-  by-size room e = e ∙ rw (← sized) (sym (in-order k a s p d quiet room ∙ rw (passed k a s p d quiet (x .parameters) .0)))
+  -- By what `arguments` says, and by the length.
+  module _ (room : ℕ) where
+    in-turn : preparedOf k quiet a s d room ≡ judge refusedWith (arguments c) (judge refusedWith (sizes (length (requestOf quiet c)) room) (readyOf k quiet a s d))
+    unfolding preparedOf
+    in-turn = judge-append refusedWith (arguments c) (sizes (length (requestOf quiet c)) room) (readyOf k quiet a s d)
 
-  -- `front`: the head's bytes.
-  module _ {front : List ℕ} (e : front ≡ take (h .0) (drop 0 (h .1))) where
-    in-front : front ≡ openingOf k quiet (x .numbers)
-    in-front = e ∙ rw (x .is-head) (take-append-seam (openingOf k quiet (x .numbers)) (replicate (4 - length (openingOf k quiet (x .numbers))) 0))
+    by-arguments : {B : Type 0} (wrong : ℕ → B) (x : B) → judge wrong (refusing takes (given a) (given s)) x ≡ cond (eqb (first (arguments c)) 0) x (wrong (first (arguments c)))
+    by-arguments wrong x = rw (← same-arguments (given a) (given s) d k) (by-number wrong (arguments c) x (non-zero-arguments c))
 
-    pub fitting : {n : ℕ} (room : ℕ) → n ≡ first (sizes (h .0 + length a′ + length s′ + length d′) room) → n ≡ 0 → length front + length a′ + length s′ + length d′ ≤ room
-    fitting room f z =
-        let same : length front ≡ h .0 = ap length in-front ∙ rw (x .is-head) in
-        rw same (room-for (h .0 + length a′ + length s′ + length d′) room (sym z ∙ f))
+    pub refused-arguments : {n : ℕ} → Refused n ≡ argumentsOf takes a s → refusedWith n ≡ preparedOf k quiet a s d room
+    refused-arguments {n} e =
+        elim (by-test (eqb (first (arguments c)) 0) (sym (by-arguments Refused (sentBy takes (format (given a) (given s)))) ∙ sym e)) [
+          | inl h ↦ absurd (let z : _≡_ {A = ℕ} 0 1 = cc in omega arith)
+          | inr h ↦ (let z : first (arguments c) ≡ n = cc in sym (in-turn ∙ by-number refusedWith (arguments c) _ (non-zero-arguments c) ∙ rw (h .0, z)))
+        ]
 
-    pub written : {n : ℕ} (before : List ℕ) {after : List ℕ} → n ≡ refusalOf quiet (callOf k a s p d) (length before) → n ≡ 0 → after ≡ over (front ++ a′ ++ s′ ++ d′) before → Written quiet (callOf k a s p d) before true after
-    written before f z g =
-        let joins : front ++ a′ ++ s′ ++ d′ ≡ request = rw in-front (sym whole) in
-        record { told = rw (← f, z); buffer = g ∙ ap (λ (bytes : List ℕ). over bytes before) joins }
+    module _ {ns : Numbers} {m : Bool} {p : Data} (e : Sent ns m p ≡ argumentsOf takes a s) where
+      passed : (eqb (first (arguments c)) 0 ≡ true) × (sentBy takes (format (given a) (given s)) ≡ Sent ns m p)
+      passed =
+          elim (by-test (eqb (first (arguments c)) 0) (sym (by-arguments Refused (sentBy takes (format (given a) (given s)))) ∙ sym e)) [
+            | inl h ↦ h
+            | inr h ↦ absurd (let z : _≡_ {A = ℕ} 0 1 = cc in omega arith)
+          ]
+
+      pub sends : (ns ≡ numbersBy takes (format (given a) (given s))) × (m ≡ takesMemory takes) × (p ≡ dataBy takes)
+      sends = let same = passed .1 in (cc, cc, cc)
+
+      pub by-size : preparedOf k quiet a s d room ≡ judge refusedWith (sizes (length (requestOf quiet c)) room) (readyOf k quiet a s d)
+      by-size = in-turn ∙ by-number refusedWith (arguments c) _ (non-zero-arguments c) ∙ rw (passed .0)
+
+-- What the code has in hand where the arguments are not refused: the pieces, and the refusal n of their size.
+pub record InHand (k : Call) (quiet : Bool) (a s d : List ℕ) (room : ℕ) (row : Row) (sub : SubFunction) (ns : Numbers) (m : Bool) (p : Data) (h : Head) (a′ s′ d′ : List ℕ) (n : ℕ) : Type 0 where
+  pub is-row : row ≡ rowOf k
+  pub is-sub : sub ≡ bit7 quiet (row .sub)
+  pub sent : Sent ns m p ≡ argumentsOf (row .takes) a s
+  pub is-head : h ≡ headOf (openingOf (row .sid) sub ns)
+  pub is-address : a′ ≡ cond m a []
+  pub is-size : s′ ≡ cond m s []
+  pub is-data : d′ ≡ dataBytes p d
+  pub told : n ≡ first (sizes (h .0 + length a′ + length s′ + length d′) room)
+
+module _ {k : Call} {quiet : Bool} {a s d : List ℕ} {room : ℕ} {row : Row} {sub : SubFunction} {ns : Numbers} {m : Bool} {p : Data} {h : Head} {a′ s′ d′ : List ℕ} {n : ℕ}
+    (x : InHand k quiet a s d room row sub ns m p h a′ s′ d′ n) where
+  -- The same with the row of the call.
+  says : Sent ns m p ≡ argumentsOf (rowOf k .takes) a s
+  says = x .sent ∙ ap (λ (r : Row). argumentsOf (r .takes) a s) (x .is-row)
+
+  opened : h ≡ headOf (opens k quiet a s d)
+  opened =
+      let z = sends k quiet a s d room says in
+      x .is-head ∙ rw (x .is-sub, x .is-row, z .0)
+
+  long : length (requestOf quiet (callOf k a s d)) ≡ h .0 + length a′ + length s′ + length d′
+  long =
+      let z = sends k quiet a s d room says in
+      ap length (whole k quiet a s d) ∙
+      rw (opened, x .is-address, x .is-size, x .is-data, z .1, z .2) (simp length-append)
+
+  by-told : preparedOf k quiet a s d room ≡ cond (eqb n 0) (readyOf k quiet a s d) (refusedWith n)
+  by-told =
+      let total = h .0 + length a′ + length s′ + length d′ in
+      by-size k quiet a s d room says ∙
+      ap (λ (l : ℕ). judge refusedWith (sizes l room) (readyOf k quiet a s d)) long ∙
+      by-number refusedWith (sizes total room) (readyOf k quiet a s d) (refl, (refl, tt)) ∙
+      ap (λ (l : ℕ). cond (eqb l 0) (readyOf k quiet a s d) (refusedWith l)) (sym (x .told))
+
+  pub refused-size : (n ≡ 0 → ⊥) → refusedWith n ≡ preparedOf k quiet a s d room
+  refused-size z = sym (by-told ∙ rw (ne-eqb n 0 z))
+
+  pub short : n ≡ 0 → h .0 + length a′ + length s′ + length d′ ≤ 4095
+  short z = no-longer (h .0 + length a′ + length s′ + length d′) room (sym z ∙ x .told)
+
+  pub ready : n ≡ 0 → record {
+    refusal = 0;
+    sid = row .sid;
+    sub = sub;
+    «head_length» = h .0;
+    head = h .1;
+    memory = m;
+    «data» = p;
+    length = h .0 + length a′ + length s′ + length d′;
+  } ≡ preparedOf k quiet a s d room
+  ready z =
+      let w = sends k quiet a s d room says in
+      let sid = ap (λ (r : Row). r .sid) (x .is-row) in
+      let subs = x .is-sub ∙ ap (λ (r : Row). bit7 quiet (r .sub)) (x .is-row) in
+      (λ i. record {
+        refusal = 0;
+        sid = sid i;
+        sub = subs i;
+        «head_length» = opened i .0;
+        head = opened i .1;
+        memory = w .1 i;
+        «data» = w .2 i;
+        length = sym long i;
+      }) ∙
+      sym (by-told ∙ rw (eq-eqb n 0 z))
+
+-- What a writer has in hand: the pieces of some bytes, and the refusal n of their size.
+pub record ToWrite (bytes before front a′ s′ d′ : List ℕ) (n : ℕ) : Type 0 where
+  pub pieces : bytes ≡ front ++ a′ ++ s′ ++ d′
+  pub told : n ≡ first (sizes (length front + length a′ + length s′ + length d′) (length before))
+
+-- The bytes of a prepared request, in the pieces that the code has.
+pub in-pieces : (p : Prepared) (a s d : List ℕ) {front a′ s′ d′ : List ℕ} → front ≡ take (p .«head_length») (drop 0 (p .head)) → a′ ≡ cond (p .memory) a [] → s′ ≡ cond (p .memory) s []
+    → d′ ≡ dataBytes (p .«data») d → piecesOf p a s d ≡ front ++ a′ ++ s′ ++ d′
+in-pieces p a s d f g h i = rw (f, g, h, i)
+
+module _ {bytes before front a′ s′ d′ : List ℕ} {n : ℕ} (x : ToWrite bytes before front a′ s′ d′ n) where
+  by-bytes : n ≡ first (sizes (length bytes) (length before))
+  by-bytes = x .told ∙ rw (x .pieces) (simp length-append)
+
+  pub unwritten : (n ≡ 0 → ⊥) → Written bytes before false before
+  unwritten h = record { told = rw (← by-bytes) (sym (ne-eqb n 0 h)); buffer = refl }
+
+  pub fitting : n ≡ 0 → length front + length a′ + length s′ + length d′ ≤ length before
+  fitting z = room-for (length front + length a′ + length s′ + length d′) (length before) (sym z ∙ x .told)
+
+  pub written : {after : List ℕ} → n ≡ 0 → after ≡ over (front ++ a′ ++ s′ ++ d′) before → Written bytes before true after
+  written z e = record { told = rw (← by-bytes, z); buffer = e ∙ rw (x .pieces) }

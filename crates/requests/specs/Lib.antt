@@ -1,4 +1,5 @@
 -- What the contracts of `requests` cite beside `rules`.
 pub mod Meaning
+pub mod Rows
 pub mod Parameters
-pub mod Requests
+pub mod Prepared

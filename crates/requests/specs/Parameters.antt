@@ -1,23 +1,27 @@
 -- A request as the code takes it apart: SID, sub-function and numbers, then address and size, then data. No public contract cites these.
-use Prim.Native.Nat.{ℕ, _+_, _-_, _*_, _/_, _%_}
+use Prim.Native.Nat.{ℕ, _+_, _-_, _*_, _%_}
 use mathlib.Core.Bool.{Bool, true, false}
 use mathlib.Core.List.{List, [], _∷_, _++_}
 use lib.ListN.{length, replicate}
+use Rattle.exchange.specs.declared.types.SubFunction.{SubFunction}
+use Rattle.exchange.specs.declared.types.SubFunction.the-variants as sub
+use Rattle.exchange.specs.Meaning.{subOf}
 use Rattle.rules.specs.Calls as rules
-use Rattle.rules.specs.Calls.{given, byte, sidOf, withBit7}
-use Rattle.rules.specs.Checks.{judge}
+use Rattle.rules.specs.Calls.{given, byte}
+use Rattle.rules.specs.InOrder.{judge}
 use Rattle.rules.specs.Refusals as refusals
-use Rattle.requests.specs.Meaning.{callOf}
-use Rattle.requests.specs.Requests.{bare}
+use Rattle.requests.specs.declared.Data.{Data}
+use Rattle.requests.specs.declared.Data.the-variants.{Absent}
 use Rattle.requests.specs.declared.Head.{Head}
-use Rattle.requests.specs.declared.calls.Call.{Call}
-use Rattle.requests.specs.declared.calls.Call.the-variants as call
+use Rattle.requests.specs.declared.rows.Numbers.{Numbers}
+use Rattle.requests.specs.declared.rows.Numbers.the-variants.{None, One, Two}
+use Rattle.requests.specs.declared.rows.Takes.{Takes}
+use Rattle.requests.specs.declared.rows.Takes.the-variants.{Plain, Key, Memory, Load}
 use Rattle.requests.specs.declared.parameters.Format.{Format}
 use Rattle.requests.specs.declared.parameters.Format.the-variants as format
-use Rattle.requests.specs.declared.parameters.Numbers.{Numbers}
-use Rattle.requests.specs.declared.parameters.Numbers.the-variants.{None, One, Two}
 use Rattle.requests.specs.declared.parameters.Parameters.{Parameters}
 use Rattle.requests.specs.declared.parameters.Parameters.the-variants.{Sent, Refused}
+use Rattle.requests.specs.Rows.{numbersOf, refusing, takesMemory}
 
 -- "m = compression × 16 + encryption", or refusal 4 or 5.
 abbrev pub methods : ℕ → ℕ → Format
@@ -28,50 +32,48 @@ abbrev pub lengths : List ℕ → List ℕ → Format
 lengths a s = judge format.Refused (refusals.lengths (given a) (given s)) (format.Byte (rules.format (given a) (given s)))
 
 -- A format byte and what stands behind it, or the refusal.
-abbrev pub memory : Format → Bool → Parameters
+abbrev pub memory : Format → Data → Parameters
 memory (format.Byte f) d = Sent (One f) true d
 memory (format.Refused n) d = Refused n
 
 abbrev pub load : Format → Format → Parameters
-load (format.Byte m) (format.Byte f) = Sent (Two m f) true false
+load (format.Byte m) (format.Byte f) = Sent (Two m f) true Absent
 load (format.Byte m) (format.Refused n) = Refused n
 load (format.Refused n) f = Refused n
 
--- An identifier: "two bytes, high first".
-abbrev pub identifier : ℕ → Numbers
-identifier id = Two (id / 256) (id % 256)
+-- What a row sends if nothing is refused, given f: numbers, and whether the data stand behind them.
+abbrev pub numbersBy : Takes → ℕ → Numbers
+numbersBy (Plain ns p) f = ns
+numbersBy (Key sub p) f = None
+numbersBy (Memory p) f = One f
+numbersBy (Load c e) f = Two (c * 16 + e) f
 
--- What each call sends if nothing is refused, given f and whether there are data.
-abbrev pub sent : Call → ℕ → Bool → Parameters
-sent (call.Request sid sub) f p = Sent None false p
-sent (call.DiagnosticSessionControl sub) f p = Sent None false false
-sent (call.EcuReset sub) f p = Sent None false false
-sent (call.SecurityAccess sub) f p = Sent None false p
-sent call.TesterPresent f p = Sent None false false
-sent call.ReadMemoryByAddress f p = Sent (One f) true false
-sent call.WriteMemoryByAddress f p = Sent (One f) true true
-sent (call.ReadDataByIdentifier id) f p = Sent (identifier id) false false
-sent (call.WriteDataByIdentifier id) f p = Sent (identifier id) false true
-sent (call.ReadDTCInformation mask) f p = Sent (One mask) false false
-sent (call.RoutineControl sub id) f p = Sent (identifier id) false p
-sent (call.RequestDownload c e) f p = Sent (Two (c * 16 + e) f) true false
-sent (call.RequestUpload c e) f p = Sent (Two (c * 16 + e) f) true false
-sent (call.TransferData counter) f p = Sent (One counter) false p
-sent call.RequestTransferExit f p = Sent None false p
+abbrev pub dataBy : Takes → Data
+dataBy (Plain ns p) = p
+dataBy (Key sub p) = p
+dataBy (Memory p) = p
+dataBy (Load c e) = Absent
 
--- The same of address, size and data, or the first refusal of 1 to 5.
-abbrev pub argumentsOf : Call → List ℕ → List ℕ → Bool → List ℕ → Parameters
-argumentsOf k a s p d = judge Refused (refusals.arguments (callOf k a s p d)) (sent k (rules.format (given a) (given s)) p)
+abbrev pub sentBy : Takes → ℕ → Parameters
+sentBy t f = Sent (numbersBy t f) (takesMemory t) (dataBy t)
 
-abbrev pub numbersOf : Numbers → List ℕ
-numbersOf None = []
-numbersOf (One a) = a ∷ []
-numbersOf (Two a b) = a ∷ b ∷ []
+-- The same of address and size, or the first refusal of 1 to 5.
+abbrev pub argumentsOf : Takes → List ℕ → List ℕ → Parameters
+argumentsOf t a s = judge Refused (refusing t (given a) (given s)) (sentBy t (rules.format (given a) (given s)))
+
+-- The sub-function as it is sent.
+abbrev pub bit7 : Bool → SubFunction → SubFunction
+bit7 quiet sub.Absent = sub.Absent
+bit7 true (sub.Given s) = sub.Given (s % 128 + 128)
+bit7 false (sub.Given s) = sub.Given s
 
 -- SID, sub-function and numbers.
-abbrev pub openingOf : Call → Bool → Numbers → List ℕ
-openingOf k quiet ns = sidOf (bare k) ∷ byte (withBit7 quiet (rules.subOf (bare k))) ++ numbersOf ns
+abbrev pub openingOf : ℕ → SubFunction → Numbers → List ℕ
+openingOf sid s ns = sid ∷ byte (subOf s) ++ numbersOf ns
 
 -- Up to four bytes, with zeros behind them.
+abbrev pub padded : List ℕ → List ℕ
+padded bs = bs ++ replicate (4 - length bs) 0
+
 abbrev pub headOf : List ℕ → Head
-headOf bs = record { 0 = length bs; 1 = bs ++ replicate (4 - length bs) 0 }
+headOf bs = record { 0 = length bs; 1 = padded bs }

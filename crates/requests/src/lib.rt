@@ -1,81 +1,87 @@
 // The fifteen calls, their requests into a lent buffer, and refusals 1 to 9.
+use exchange::types::SubFunction;
+use parameters::Parameters;
+use rows::Numbers;
+use rows::row_of;
 ghost use Prim.Native.Nat.{_+_, _≤_};
 ghost use mathlib.Core.Bool.{cond};
 ghost use mathlib.Core.List.{[], _++_};
-ghost use mathlib.Core.Option.{some};
 ghost use mathlib.Core.Path.{_≡_};
 ghost use lib.ListN.{length};
-ghost use Rattle.exchange.specs.Meaning as exchange;
-ghost use Rattle.rules.specs.Calls as rules;
-ghost use Rattle.rules.specs.Calls.{sidOf, withBit7};
-ghost use Rattle.requests.specs.Meaning.{callOf};
-ghost use Rattle.requests.specs.Parameters.{openingOf, headOf};
-ghost use Rattle.requests.specs.Requests.{bare, first, sizes, refusalOf, over, Written};
-use calls::Call;
-use exchange::types::SubFunction;
-use parameters::Numbers;
-use parameters::Parameters;
+ghost use Rattle.requests.specs.Meaning.{dataBytes};
+ghost use Rattle.requests.specs.Parameters.{bit7, openingOf, headOf};
+ghost use Rattle.requests.specs.Prepared.{first, sizes, over, refusedWith, preparedOf, Written, piecesOf};
 
-pub mod calls;
 mod parameters;
+pub mod rows;
 
-// The first byte of the request.
-pub fn service_id(call: Call) -> u8
-    ensures { λ r. ⌜ r ≡ sidOf (bare call) ⌝ }
+// Whether data is given beside a call: absent is not empty.
+pub enum Data {
+    Absent,
+    Present,
+}
+
+// The calls 0 to 14 with their numbers, under the names of the Rust's services. Address, size and data stand beside it as slices.
+pub enum Call {
+    Request(u8, SubFunction, Data),
+    DiagnosticSessionControl(u8),
+    EcuReset(u8),
+    SecurityAccess(u8, Data),
+    TesterPresent,
+    ReadMemoryByAddress,
+    WriteMemoryByAddress,
+    ReadDataByIdentifier(u16),
+    WriteDataByIdentifier(u16),
+    ReadDTCInformation(u8),
+    RoutineControl(u8, u16, Data),
+    RequestDownload(u8, u8),
+    RequestUpload(u8, u8),
+    TransferData(u8, Data),
+    RequestTransferExit(Data),
+}
+
+// A request, worked out once: its first bytes, which of the caller's slices stand behind them, and how long it is. A refused one has none of these.
+pub struct Prepared {
+    // 0 where there is none
+    pub refusal: u8,
+    pub sid: u8,
+    // as it is sent
+    pub sub: SubFunction,
+    pub head_length: u8,
+    pub head: [u8; 4],
+    pub memory: bool,
+    pub data: Data,
+    pub length: usize,
+}
+
+fn refused(number: u8) -> Prepared
+    ensures { λ r. ⌜ r ≡ refusedWith number ⌝ }
 {
-    match call {
-        Call::Request(sid, _) => sid,
-        Call::DiagnosticSessionControl(_) => 0x10,
-        Call::EcuReset(_) => 0x11,
-        Call::SecurityAccess(_) => 0x27,
-        Call::TesterPresent => 0x3E,
-        Call::ReadMemoryByAddress => 0x23,
-        Call::WriteMemoryByAddress => 0x3D,
-        Call::ReadDataByIdentifier(_) => 0x22,
-        Call::WriteDataByIdentifier(_) => 0x2E,
-        Call::ReadDTCInformation(_) => 0x19,
-        Call::RoutineControl(_, _) => 0x31,
-        Call::RequestDownload(_, _) => 0x34,
-        Call::RequestUpload(_, _) => 0x35,
-        Call::TransferData(_) => 0x36,
-        Call::RequestTransferExit => 0x37,
+    Prepared {
+        refusal: number,
+        sid: 0,
+        sub: SubFunction::Absent,
+        head_length: 0,
+        head: [0; 4],
+        memory: false,
+        data: Data::Absent,
+        length: 0,
     }
 }
 
 // "The suppressed client sets bit 7"; `quiet` says that it is this client who calls.
-fn with_bit7(quiet: bool, sub: u8) -> SubFunction
-    ensures { λ r. ⌜ exchange.subOf r ≡ withBit7 quiet (some sub) ⌝ }
+fn with_bit7(quiet: bool, sub: SubFunction) -> SubFunction
+    ensures { λ r. ⌜ r ≡ bit7 quiet sub ⌝ }
 {
-    if quiet {
-        SubFunction::Given(sub % 128 + 128)
-    } else {
-        SubFunction::Given(sub)
-    }
-}
-
-// The sub-function as it is sent.
-pub fn sub_function(call: Call, quiet: bool) -> SubFunction
-    ensures { λ r. ⌜ exchange.subOf r ≡ withBit7 quiet (rules.subOf (bare call)) ⌝ }
-{
-    match call {
-        Call::Request(_, sub) => match sub {
-            SubFunction::Absent => SubFunction::Absent,
-            SubFunction::Given(sub) => with_bit7(quiet, sub),
-        },
-        Call::DiagnosticSessionControl(sub) => with_bit7(quiet, sub),
-        Call::EcuReset(sub) => with_bit7(quiet, sub),
-        Call::SecurityAccess(sub) => with_bit7(quiet, sub),
-        Call::TesterPresent => with_bit7(quiet, 0),
-        Call::ReadMemoryByAddress => SubFunction::Absent,
-        Call::WriteMemoryByAddress => SubFunction::Absent,
-        Call::ReadDataByIdentifier(_) => SubFunction::Absent,
-        Call::WriteDataByIdentifier(_) => SubFunction::Absent,
-        Call::ReadDTCInformation(_) => with_bit7(quiet, 1),
-        Call::RoutineControl(sub, _) => with_bit7(quiet, sub),
-        Call::RequestDownload(_, _) => SubFunction::Absent,
-        Call::RequestUpload(_, _) => SubFunction::Absent,
-        Call::TransferData(_) => SubFunction::Absent,
-        Call::RequestTransferExit => SubFunction::Absent,
+    match sub {
+        SubFunction::Absent => SubFunction::Absent,
+        SubFunction::Given(s) => {
+            if quiet {
+                SubFunction::Given(s % 128 + 128)
+            } else {
+                SubFunction::Given(s)
+            }
+        }
     }
 }
 
@@ -83,20 +89,19 @@ pub fn sub_function(call: Call, quiet: bool) -> SubFunction
 struct Head(u8, [u8; 4]);
 
 // SID, sub-function and the parameters that are numbers.
-fn opening(call: Call, quiet: bool, numbers: Numbers) -> Head
-    ensures { λ r. ⌜ r ≡ headOf (openingOf call quiet numbers) ⌝ }
+fn opening(sid: u8, sub: SubFunction, numbers: Numbers) -> Head
+    ensures { λ r. ⌜ r ≡ headOf (openingOf sid sub numbers) ⌝ }
 {
-    let sid = service_id(call);
-    match sub_function(call, quiet) {
+    match sub {
         SubFunction::Absent => match numbers {
             Numbers::None => Head(1, [sid, 0, 0, 0]),
             Numbers::One(a) => Head(2, [sid, a, 0, 0]),
             Numbers::Two(a, b) => Head(3, [sid, a, b, 0]),
         },
-        SubFunction::Given(sub) => match numbers {
-            Numbers::None => Head(2, [sid, sub, 0, 0]),
-            Numbers::One(a) => Head(3, [sid, sub, a, 0]),
-            Numbers::Two(a, b) => Head(4, [sid, sub, a, b]),
+        SubFunction::Given(s) => match numbers {
+            Numbers::None => Head(2, [sid, s, 0, 0]),
+            Numbers::One(a) => Head(3, [sid, s, a, 0]),
+            Numbers::Two(a, b) => Head(4, [sid, s, a, b]),
         },
     }
 }
@@ -108,10 +113,22 @@ fn when<'a>(sent: bool, bytes: &'a [u8]) -> &'a [u8]
     if sent { bytes } else { &bytes[..0] }
 }
 
+fn when_given<'a>(data: Data, bytes: &'a [u8]) -> &'a [u8]
+    ensures { λ r. ⌜ now r ≡ dataBytes «data» (now (bytes .entry)) ⌝ }
+{
+    match data {
+        Data::Absent => &bytes[..0],
+        Data::Present => bytes,
+    }
+}
+
 // Refusals 8 and 9 of a request in four pieces. One that is too long alone is refused first, so that the sum does not wrap.
-fn size_refusal(head: u8, address: usize, size: usize, data: usize, room: usize) -> u8
+fn size_refusal(head: usize, address: usize, size: usize, data: usize, room: usize) -> u8
     ensures { λ r. ⌜ r ≡ first (sizes (head + address + size + «data») room) ⌝ }
 {
+    if head > 4095 {
+        return 8;
+    }
     if address > 4095 {
         return 8;
     }
@@ -121,7 +138,7 @@ fn size_refusal(head: u8, address: usize, size: usize, data: usize, room: usize)
     if data > 4095 {
         return 8;
     }
-    let len = head as usize + address + size + data;
+    let len = head + address + size + data;
     if len > 4095 {
         return 8;
     }
@@ -131,26 +148,45 @@ fn size_refusal(head: u8, address: usize, size: usize, data: usize, room: usize)
     0
 }
 
-// The first refusal of 1 to 9 in document 01's order, 0 where there is none; `room` is the length of the request buffer.
-pub fn refusal(
+// The request of a call, or the first refusal of 1 to 9 in document 01's order; `room` is the length of the request buffer.
+pub fn prepare(
     call: Call,
     quiet: bool,
     address: &[u8],
     size: &[u8],
-    present: bool,
     data: &[u8],
     room: usize,
-) -> u8
-    ensures { λ r. ⌜ r ≡ refusalOf quiet (callOf call (now (address .entry)) (now (size .entry)) present (now («data» .entry))) room ⌝ }
+) -> Prepared
+    ensures { λ r. ⌜ r ≡ preparedOf call quiet (now (address .entry)) (now (size .entry)) (now («data» .entry)) room ⌝ }
 {
-    match parameters::arguments(call, address, size, present) {
-        Parameters::Refused(number) => number,
+    let row = row_of(call);
+    let sid = row.sid;
+    let given_sub = row.sub;
+    let takes = row.takes;
+    let sub = with_bit7(quiet, given_sub);
+    match parameters::arguments(takes, address, size) {
+        Parameters::Refused(number) => refused(number),
         Parameters::Sent(numbers, memory, with_data) => {
-            let head = opening(call, quiet, numbers);
-            let a = when(memory, address);
-            let s = when(memory, size);
-            let d = when(with_data, data);
-            size_refusal(head.0, a.len(), s.len(), d.len(), room)
+            let head = opening(sid, sub, numbers);
+            let head_length = head.0;
+            let bytes = head.1;
+            let a = when(memory, address).len();
+            let s = when(memory, size).len();
+            let d = when_given(with_data, data).len();
+            let number = size_refusal(head_length as usize, a, s, d, room);
+            if number != 0 {
+                return refused(number);
+            }
+            Prepared {
+                refusal: 0,
+                sid,
+                sub,
+                head_length,
+                head: bytes,
+                memory,
+                data: with_data,
+                length: head_length as usize + a + s + d,
+            }
         }
     }
 }
@@ -168,33 +204,27 @@ fn join(buffer: &mut [u8], head: &[u8], address: &[u8], size: &[u8], data: &[u8]
     wire::copy_into(buffer, at_data, data);
 }
 
-// "Not refused: the request stands at the buffer's front, the rest of it keeps its bytes."
-// Where `refusal` is not 0 the answer is false, and the buffer is untouched.
-pub fn write_request(
+// "the request stands at the buffer's front, the rest of it keeps its bytes." Where its pieces have no room, or are longer than
+// any request, the answer is false and the buffer is untouched.
+pub fn write(
     buffer: &mut [u8],
-    quiet: bool,
-    call: Call,
+    prepared: Prepared,
     address: &[u8],
     size: &[u8],
-    present: bool,
     data: &[u8],
 ) -> bool
-    ensures { λ r. ⌜ Written quiet (callOf call (now (address .entry)) (now (size .entry)) present (now («data» .entry))) (now (buffer .entry)) r (now (buffer .exit)) ⌝ }
+    ensures { λ r. ⌜ Written (piecesOf prepared (now (address .entry)) (now (size .entry)) (now («data» .entry))) (now (buffer .entry)) r (now (buffer .exit)) ⌝ }
 {
-    match parameters::arguments(call, address, size, present) {
-        Parameters::Refused(_) => false,
-        Parameters::Sent(numbers, memory, with_data) => {
-            let head = opening(call, quiet, numbers);
-            let len = head.0;
-            let bytes = head.1;
-            let a = when(memory, address);
-            let s = when(memory, size);
-            let d = when(with_data, data);
-            if size_refusal(len, a.len(), s.len(), d.len(), buffer.len()) != 0 {
-                return false;
-            }
-            join(buffer, wire::part(&bytes, 0, len as usize), a, s, d);
-            true
-        }
+    let bytes = prepared.head;
+    let memory = prepared.memory;
+    let with_data = prepared.data;
+    let head = wire::part(&bytes, 0, prepared.head_length as usize);
+    let a = when(memory, address);
+    let s = when(memory, size);
+    let d = when_given(with_data, data);
+    if size_refusal(head.len(), a.len(), s.len(), d.len(), buffer.len()) != 0 {
+        return false;
     }
+    join(buffer, head, a, s, d);
+    true
 }

@@ -1,141 +1,173 @@
--- The counts, proved: by induction over the events, with what was read before them in front.
-use Prim.Native.Nat.{ℕ, _+_}
+-- The counts, proved: by induction over the exchange, with what was read before in front.
+use Prim.Native.Nat.{ℕ, _+_, _≤_, max}
 use native.Mathlib.Omega.{arith}
-use mathlib.Core.Bool.{Bool, true, false, cond}
-use mathlib.Core.Path.{_≡_, refl, sym, _∙_, ap}
-use mathlib.Core.Logic.{inl, inr}
+use mathlib.Core.Bool.{Bool, true, false, cond, _&&_, true≢false}
+use mathlib.Core.Path.{_≡_, refl, sym, _∙_, ap, ap₂, subst, subst⁻¹}
+use mathlib.Core.Logic.{_⊎_, inl, inr}
 use mathlib.Core.List.{List, [], _∷_, _++_, map}
 use mathlib.Core.Option.{none}
-use lib.Dec.{leb, ltb, eqb}
-use lib.ListN.{length, getD}
-use borrow.Author.Tests.{leb-false, le-leb, lt-leb}
+use lib.Dec.{ltb, eqb}
+use lib.ListN.{length, length-map, getD}
+use borrow.Author.Tests.{le-leb, lt-leb}
 use Rattle.rules.specs.Answers.{Part, Fault, Outcome, positive, behind, lengthError}
 use Rattle.rules.specs.Calls.{head, suppresses}
-use Rattle.rules.specs.Checks.{Check, judge}
-use Rattle.rules.specs.Counts.{isPending, isNotice, passes, noticesIn, After, UpToSettling, Counts}
+use Rattle.rules.specs.InOrder.{Check, judge}
+use Rattle.rules.specs.Counts.{isPending, isNotice, passes, noticesIn, After, Rising, UpToSettling, Counts}
+use Rattle.rules.specs.Conversations.{Every}
 use Rattle.rules.specs.Events.{Event, reply, idle, ended, failed, timeOf, upTo}
-use Rattle.rules.specs.Exchange.{Asked, Step, pending, settles, wrong, refusing, coded, granting, look, Settled, silence, act, turn, settle, exchange}
+use Rattle.rules.specs.Exchange.{Asked, Step, pending, settles, wrong, negativeChecks, coded, positiveChecks, look, Settled, settled, State, start, waits, hears, turn, silence, settle, exchange}
 use Rattle.rules.proofs.Judging.{judge-ind}
+use Rattle.rules.proofs.Turns.{Through, settle-ind}
 
 judge-settles : (cs : List (Check Fault)) (o : Outcome) → isPending (judge wrong cs (settles o)) ≡ false
 judge-settles cs o = judge-ind (λ s. isPending s ≡ false) wrong cs (settles o) (λ f. refl) (λ p. refl)
 
 -- Whether a reply is a notice does not hang on suppression.
-hush-free : (m : Bool) (a : Asked) (hush : Bool) (p : Part) → isPending (look m a hush p) ≡ isPending (look m a false p)
+hush-free : (strict : Bool) (a : Asked) (hush : Bool) (p : Part) → isPending (look strict a hush p) ≡ isPending (look strict a false p)
 unfolding look
-hush-free m a hush p = go (ltb 0 (length (p .bytes))) (eqb (getD (p .bytes) 0 0) 0x7f)
+hush-free strict a hush p = go (ltb 0 (length (p .bytes))) (eqb (getD (p .bytes) 0 0) 0x7f)
   where
-    grant : Bool → Step
-    grant q = judge wrong (granting m a q (p .bytes)) (settles (positive (behind (head (a .sub)) p)))
+    judged : Bool → Step
+    judged q = judge wrong (positiveChecks strict a q (p .bytes)) (settles (positive (behind (head (a .sub)) p)))
 
     go : (some-byte negative : Bool) →
-        isPending (cond some-byte (cond negative (judge wrong (refusing m a (p .bytes)) (coded (getD (p .bytes) 2 0))) (grant hush)) (wrong (lengthError m 1 none)))
-        ≡ isPending (cond some-byte (cond negative (judge wrong (refusing m a (p .bytes)) (coded (getD (p .bytes) 2 0))) (grant false)) (wrong (lengthError m 1 none)))
+        isPending (cond some-byte (cond negative (judge wrong (negativeChecks strict a (p .bytes)) (coded (getD (p .bytes) 2 0))) (judged hush)) (wrong (lengthError strict 1 none)))
+        ≡ isPending (cond some-byte (cond negative (judge wrong (negativeChecks strict a (p .bytes)) (coded (getD (p .bytes) 2 0))) (judged false)) (wrong (lengthError strict 1 none)))
     go true true = refl
-    go true false = judge-settles (granting m a hush (p .bytes)) _ ∙ sym (judge-settles (granting m a false (p .bytes)) _)
+    go true false = judge-settles (positiveChecks strict a hush (p .bytes)) _ ∙ sym (judge-settles (positiveChecks strict a false (p .bytes)) _)
     go false negative = refl
 
-module _ (m : Bool) (a : Asked) where
-  -- What an exchange over e, begun with es and ns read, has read of e.
-  record Reading (e : List Event) (es ns : List ℕ) (s : Settled) : Type 0 where
+-- Times read, on top of those read before.
+abbrev onto : List ℕ → List ℕ → List ℕ
+onto [] l = l
+onto (t ∷ ts) l = onto ts (t ∷ l)
+
+onto-length : (ts l : List ℕ) → length (onto ts l) ≡ length ts + length l
+onto-length [] l = omega arith
+onto-length (t ∷ ts) l = omega (arith, onto-length ts (t ∷ l))
+
+onto-upTo : (limit : ℕ) (ts l : List ℕ) → upTo limit (onto ts l) ≡ upTo limit ts + upTo limit l
+onto-upTo limit [] l = omega arith
+onto-upTo limit (t ∷ ts) l = omega (arith, onto-upTo limit ts (t ∷ l))
+
+module _ (strict : Bool) (a : Asked) where
+  -- What an exchange from the state s on that settled in x has read of the events es.
+  record Reading (s : State) (es : List Event) (x : Settled) : Type 0 where
     read : List Event
     rest : List Event
-    begins : e ≡ read ++ rest
-    settling : UpToSettling m a read rest (s .time)
-    events : length (s .events) ≡ length es + length read
-    notices : length (s .notices) ≡ length ns + length (noticesIn m a read)
-    events-to : (limit : ℕ) → upTo limit (s .events) ≡ upTo limit es + upTo limit (map timeOf read)
-    notices-to : (limit : ℕ) → upTo limit (s .notices) ≡ upTo limit ns + upTo limit (map timeOf (noticesIn m a read))
+    begins : es ≡ read ++ rest
+    settling : UpToSettling strict a read rest (x .time)
+    in-time : (t : ℕ) → t ≤ s .deadline → Rising t es → (t ≤ x .time) × Every (λ e. timeOf e ≤ x .time) read
+    times : x .read ≡ onto (map timeOf read) (s .read)
+    notices : x .notices ≡ onto (map timeOf (noticesIn strict a read)) (s .notices)
 
-  module _ (e : List Event) (es ns : List ℕ) (s : Settled) where
-    -- One event more in front: a notice, or an idle.
-    extends : (x : Event) (read rest : List Event) → passes m a x ≡ true → UpToSettling m a read rest (s .time) → UpToSettling m a (x ∷ read) rest (s .time)
-    extends x read rest p (inl h) = inl (x ∷ h .0, h .1, ap (λ (l : List Event). x ∷ l) (h .2), (p, h .3), h .4)
-    extends x read rest p (inr h) = inr ((p, h .0), h .1)
-
-    behind-notice : (t : ℕ) (p : Part) → isPending (look m a false p) ≡ true → Reading e (t ∷ es) (t ∷ ns) s → Reading (reply t p ∷ e) es ns s
-    behind-notice t p n r = record {
-      read = reply t p ∷ r .read;
-      rest = r .rest;
-      begins = ap (λ (l : List Event). reply t p ∷ l) (r .begins);
-      settling = extends (reply t p) (r .read) (r .rest) n (r .settling);
-      events = omega (arith, r .events);
-      notices = rw n (omega (arith, r .notices));
-      events-to = λ limit. omega (arith, r .events-to limit);
-      notices-to = λ limit. rw n (omega (arith, r .notices-to limit));
-    }
-
-    behind-idle : (t : ℕ) → Reading e (t ∷ es) ns s → Reading (idle t ∷ e) es ns s
-    behind-idle t r = record {
-      read = idle t ∷ r .read;
-      rest = r .rest;
-      begins = ap (λ (l : List Event). idle t ∷ l) (r .begins);
-      settling = extends (idle t) (r .read) (r .rest) refl (r .settling);
-      events = omega (arith, r .events);
-      notices = r .notices;
-      events-to = λ limit. omega (arith, r .events-to limit);
-      notices-to = r .notices-to;
-    }
-
-    -- The event that settles.
-    settled-by : (x : Event) → passes m a x ≡ false → isNotice m a x ≡ false → s .events ≡ timeOf x ∷ es → s .notices ≡ ns → Reading (x ∷ e) es ns s
-    settled-by x p n h k = record {
-      read = x ∷ [];
-      rest = e;
-      begins = refl;
-      settling = inl ([], x, refl, tt, p);
-      events = omega (arith, ap (λ (l : List ℕ). length l) h);
-      notices = rw n (omega (arith, ap (λ (l : List ℕ). length l) k));
-      events-to = λ limit. omega (arith, ap (λ (l : List ℕ). upTo limit l) h);
-      notices-to = λ limit. rw n (omega (arith, ap (λ (l : List ℕ). upTo limit l) k));
-    }
+  extends : (e : Event) (read rest : List Event) (time : ℕ) → passes strict a e ≡ true → UpToSettling strict a read rest time → UpToSettling strict a (e ∷ read) rest time
+  extends e read rest time p (inl h) = inl (e ∷ h .0, h .1, ap (λ (l : List Event). e ∷ l) (h .2), (p, h .3), h .4)
+  extends e read rest time p (inr h) = inr ((p, h .0), h .1)
 
   -- No event in time.
-  silent : (e : List Event) (hush : Bool) (d : ℕ) (es ns : List ℕ) → After d e → Reading e es ns (silence hush d es ns)
-  silent e hush d es ns h = record {
+  silent : (s : State) (es : List Event) → After (s .deadline) es → Reading s es (silence s)
+  silent s es h = record {
     read = [];
-    rest = e;
+    rest = es;
     begins = refl;
     settling = inr (tt, h);
-    events = omega arith;
-    notices = omega arith;
-    events-to = λ limit. omega arith;
-    notices-to = λ limit. omega arith;
+    in-time = λ t k r. (k, tt);
+    times = refl;
+    notices = refl;
   }
 
-  reading : (e : List Event) (hush : Bool) (d : ℕ) (es ns : List ℕ) → Reading e es ns (settle m a e hush d es ns)
-  unfolding settle
-  reading [] hush d es ns = silent [] hush d es ns tt
-  reading (x ∷ e) hush d es ns = go x (leb (timeOf x) d) refl (reading e)
+  module _ (s : State) (e : Event) (es : List Event) where
+    -- The event that settles.
+    settled-by : (o : Outcome) (time : ℕ) (p : Part) → passes strict a e ≡ false → isNotice strict a e ≡ false → timeOf e ≤ time
+        → Reading s (e ∷ es) (settled o time (timeOf e ∷ s .read) (s .notices) p)
+    settled-by o time p stops n h = record {
+      read = e ∷ [];
+      rest = es;
+      begins = refl;
+      settling = inl ([], e, refl, tt, stops);
+      in-time = λ t k r. (omega arith, (h, tt));
+      times = refl;
+      notices = rw n refl;
+    }
+
+    -- One event more in front: an idle, or a notice.
+    behind-one : (s′ : State) (x : Settled) → passes strict a e ≡ true → timeOf e ≤ s′ .deadline → s′ .read ≡ timeOf e ∷ s .read
+        → ((l : List Event) → onto (map timeOf l) (s′ .notices) ≡ onto (map timeOf (cond (isNotice strict a e) (e ∷ l) l)) (s .notices))
+        → Reading s′ es x → Reading s (e ∷ es) x
+    behind-one s′ x p h t n r = record {
+      read = e ∷ r .read;
+      rest = r .rest;
+      begins = ap (λ (l : List Event). e ∷ l) (r .begins);
+      settling = extends e (r .read) (r .rest) (x .time) p (r .settling);
+      in-time = λ u k up. let i = r .in-time (timeOf e) h (up .1) in (omega (arith, i .0), i);
+      times = r .times ∙ ap (onto (map timeOf (r .read))) t;
+      notices = r .notices ∙ n (noticesIn strict a (r .read));
+    }
+
+  at-least : (b : Bool) (t p : ℕ) → t ≤ cond b (max t p) t
+  at-least true t p = omega arith
+  at-least false t p = omega arith
+
+  through : (s : State) (e : Event) (es : List Event) → timeOf e ≤ s .deadline → Through Reading s e es (turn strict a s e)
+  through s (reply t p) es k = by-look (look strict a (s .hush) p) (hush-free strict a (s .hush) p)
     where
-      On : Type 0
-      On = (q : Bool) (k : ℕ) (es′ ns′ : List ℕ) → Reading e es′ ns′ (settle m a e q k es′ ns′)
+      by-look : (z : Step) → isPending z ≡ isPending (look strict a false p) → Through Reading s (reply t p) es (hears a s t p z)
+      by-look pending n = λ x. behind-one s (reply t p) es _ x (sym n) (omega arith) refl (λ l. rw (← n) refl)
+      by-look (settles o) n = settled-by s (reply t p) es o _ p (sym n) (sym n) (at-least (waits o && suppresses (a .sub)) t (a .timing .p2))
+  through s (idle t) es k = λ x. behind-one s (idle t) es _ x refl k refl (λ l. refl)
+  through s (ended t) es k = settled-by s (ended t) es _ t _ refl refl (omega arith)
+  through s (failed t n) es k = settled-by s (failed t n) es _ t _ refl refl (omega arith)
 
-      by-look : (t : ℕ) (p : Part) (z : Step) → look m a hush p ≡ z → On → Reading (reply t p ∷ e) es ns (act a t p (settle m a e) es ns z)
-      by-look t p pending l on =
-          behind-notice e es ns _ t p (sym (hush-free m a hush p) ∙ ap isPending l) (on false (t + a .star) (t ∷ es) (t ∷ ns))
-      by-look t p (settles o) l on =
-          let n = sym (hush-free m a hush p) ∙ ap isPending l in settled-by e es ns _ (reply t p) n n refl refl
+  reading : (es : List Event) → Reading (start a) es (settle strict a es (start a))
+  reading es = settle-ind strict a Reading silent through es (start a)
 
-      go : (x : Event) (b : Bool) → leb (timeOf x) d ≡ b → On → Reading (x ∷ e) es ns (cond b (turn m a (settle m a e) x hush d es ns) (silence hush d es ns))
-      go (reply t p) true k on = by-look t p (look m a hush p) refl on
-      go (idle t) true k on = behind-idle e es ns _ t (on hush d (t ∷ es) ns)
-      go (ended t) true k on = settled-by e es ns _ (ended t) refl refl refl refl
-      go (failed t n) true k on = settled-by e es ns _ (failed t n) refl refl refl refl
-      go x false k on = silent (x ∷ e) hush d es ns (leb-false (timeOf x) d k)
+  -- The first event read settles and is the last; or it does not, and the others are read up to settling.
+  first-read : (e : Event) (read rest : List Event) (time : ℕ) → UpToSettling strict a (e ∷ read) rest time
+      → ((passes strict a e ≡ true) × UpToSettling strict a read rest time) ⊎ ((passes strict a e ≡ false) × (read ≡ []))
+  first-read e read rest time (inl ([], x, b, p, q)) = let same : e ≡ x = cc in inr (ap (passes strict a) same ∙ q, cc)
+  first-read e read rest time (inl (y ∷ before, x, b, p, q)) = let same : e ≡ y = cc in inl (ap (passes strict a) same ∙ p .0, inl (before, x, cc, p .1, q))
+  first-read e read rest time (inr h) = inl (h .0 .0, inr (h .0 .1, h .1))
+
+  none-read : (e : Event) (rest : List Event) (time : ℕ) → UpToSettling strict a [] (e ∷ rest) time → timeOf e ≤ time → ⊥
+  none-read e rest time (inl ([], x, b, p, q)) h = mathlib.Core.List.cons≢nil (sym b)
+  none-read e rest time (inl (y ∷ before, x, b, p, q)) h = mathlib.Core.List.cons≢nil (sym b)
+  none-read e rest time (inr k) h = omega (arith, k .1)
+
+  only : (read rest read′ rest′ : List Event) (time : ℕ) → UpToSettling strict a read rest time → UpToSettling strict a read′ rest′ time
+      → Every (λ e. timeOf e ≤ time) read → Every (λ e. timeOf e ≤ time) read′ → read ++ rest ≡ read′ ++ rest′ → (read ≡ read′) × (rest ≡ rest′)
+  only [] rest [] rest′ time u u′ t t′ e = (refl, e)
+  only [] rest (x ∷ read′) rest′ time u u′ t t′ e = absurd (none-read x (read′ ++ rest′) time (subst (λ (l : List Event). UpToSettling strict a [] l time) e u) (t′ .0))
+  only (x ∷ read) rest [] rest′ time u u′ t t′ e = absurd (none-read x (read ++ rest) time (subst⁻¹ (λ (l : List Event). UpToSettling strict a [] l time) e u′) (t .0))
+  only (x ∷ read) rest (y ∷ read′) rest′ time u u′ t t′ e =
+      go (first-read x read rest time u) (first-read y read′ rest′ time u′) (λ v v′. only read rest read′ rest′ time v v′ (t .1) (t′ .1) cc)
+    where
+      same : x ≡ y
+      same = cc
+
+      go : ((passes strict a x ≡ true) × UpToSettling strict a read rest time) ⊎ ((passes strict a x ≡ false) × (read ≡ []))
+          → ((passes strict a y ≡ true) × UpToSettling strict a read′ rest′ time) ⊎ ((passes strict a y ≡ false) × (read′ ≡ []))
+          → (UpToSettling strict a read rest time → UpToSettling strict a read′ rest′ time → (read ≡ read′) × (rest ≡ rest′))
+          → (x ∷ read ≡ y ∷ read′) × (rest ≡ rest′)
+      go (inl h) (inl k) more = let h′ = more (h .1) (k .1) in (ap₂ (λ (z : Event) (l : List Event). z ∷ l) same (h′ .0), h′ .1)
+      go (inl h) (inr k) more = absurd (true≢false (sym (h .0) ∙ ap (passes strict a) same ∙ k .0))
+      go (inr h) (inl k) more = absurd (true≢false (sym (k .0) ∙ ap (passes strict a) (sym same) ∙ h .0))
+      go (inr h) (inr k) more = let p = h .1 in let q = k .1 in (cc, cc)
 
 pub counts : Counts
 unfolding exchange
-counts m a es =
-    let s = settle m a es (suppresses (a .sub)) (a .p2) [] [] in
-    let r = reading m a es (suppresses (a .sub)) (a .p2) [] [] in
+counts strict a es =
+    let x = settle strict a es (start a) in
+    let r = reading strict a es in
+    let notices = noticesIn strict a (r .read) in
+    let early : Rising 0 es → Every (λ e. timeOf e ≤ x .time) (r .read) = λ up. r .in-time 0 (omega arith) up .1 in
     record {
       read = r .read;
       rest = r .rest;
-      begins = r .begins;
-      settling = r .settling;
-      events = omega (arith, r .events);
-      notices = omega (arith, r .notices);
-      in-limit = λ limit h. rw (le-leb (s .time) limit h);
-      over-limit = λ limit h. rw (lt-leb (s .time) limit h) (omega (arith, r .events-to limit), omega (arith, r .notices-to limit));
+      reads = record { begins = r .begins; settling = r .settling; in-time = early };
+      no-others = λ up read′ rest′ h. only strict a read′ rest′ (r .read) (r .rest) (x .time) (h .settling) (r .settling) (h .in-time up) (early up) (sym (h .begins) ∙ r .begins);
+      events = rw (r .times) (omega (arith, onto-length (map timeOf (r .read)) [], length-map (r .read) timeOf));
+      notices = rw (r .notices) (omega (arith, onto-length (map timeOf notices) [], length-map notices timeOf));
+      within-overall = λ overall h. rw (le-leb (x .time) overall h);
+      past-overall = λ overall h. rw (lt-leb (x .time) overall h, r .times, r .notices) (omega (arith, onto-upTo overall (map timeOf (r .read)) []), omega (arith, onto-upTo overall (map timeOf notices) []));
     }

@@ -6,11 +6,11 @@ use Rattle.rules.specs.Events.{withinLimits, entriesFrom}
 use Rattle.rules.specs.Examples.{examples, log, Examples}
 use Rattle.rules.specs.Exchange.{look, settle, exchange}
 use Rattle.rules.specs.Lines.{decimalTo, line}
-use Rattle.rules.specs.Logs.{layoutOk, lineOf}
+use Rattle.rules.specs.Logs.{layoutOk, lineOf, answerOf}
 use Rattle.rules.specs.Readings.{meetings, Readings}
 
 pub examples-hold : Examples
-unfolding examples log lineOf layoutOk line decimalTo call withinLimits entriesFrom exchange settle look checked
+unfolding examples log lineOf answerOf layoutOk line decimalTo call withinLimits entriesFrom exchange settle look checked
 examples-hold = (refl, refl)
 
 pub readings-hold : Readings

@@ -1,9 +1,10 @@
 -- Laws of `judge` and `cond`: an answer that no fault gives comes of checks that all pass.
 use mathlib.Core.Bool.{Bool, true, false, cond, _&&_}
-use mathlib.Core.Path.{_≡_, refl}
+use mathlib.Core.Path.{_≡_, refl, ap, _∙_}
 use mathlib.Core.Logic.{_⊎_, inl, inr}
 use mathlib.Core.List.{List, [], _∷_, _++_}
-use Rattle.rules.specs.Checks.{Check, judge}
+use Rattle.rules.specs.InOrder.{Check, judge}
+use Rattle.rules.specs.Conversations.{Every}
 
 abbrev pub Pass : {A : Type 0} → List (Check A) → Type 0
 Pass [] = Unit {0}
@@ -38,6 +39,16 @@ judge-ind P wrong (c ∷ cs) x f g = go (c .test) refl (λ e. judge-ind P wrong 
     go true e h = h e
     go false e h = f (c .fault)
 
+-- The same, where something is known of each check's fault.
+pub judge-faults : {A B : Type 0} (Q : A → Type 0) (P : B → Type 0) (wrong : A → B) (cs : List (Check A)) (x : B) → Every (λ c. Q (c .fault)) cs
+    → ((f : A) → Q f → P (wrong f)) → (Pass cs → P x) → P (judge wrong cs x)
+judge-faults Q P wrong [] x q f g = g tt
+judge-faults Q P wrong (c ∷ cs) x q f g = go (c .test) refl (λ e. judge-faults Q P wrong cs x (q .1) f (λ p. g (e, p)))
+  where
+    go : (b : Bool) → c .test ≡ b → (c .test ≡ true → P (judge wrong cs x)) → P (cond b (judge wrong cs x) (wrong (c .fault)))
+    go true e h = h e
+    go false e h = f (c .fault) (q .0)
+
 pub pass-append : {A : Type 0} (cs ds : List (Check A)) → Pass (cs ++ ds) → Pass cs × Pass ds
 pass-append [] ds p = (tt, p)
 pass-append (c ∷ cs) ds p = let r = pass-append cs ds (p .1) in ((p .0, r .0), r .1)
@@ -45,3 +56,18 @@ pass-append (c ∷ cs) ds p = let r = pass-append cs ds (p .1) in ((p .0, r .0),
 pub append-pass : {A : Type 0} (cs ds : List (Check A)) → Pass cs → Pass ds → Pass (cs ++ ds)
 append-pass [] ds p q = q
 append-pass (c ∷ cs) ds p q = (p .0, append-pass cs ds (p .1) q)
+
+-- Joined checks, and a function over what is judged.
+pub judge-append : {A B : Type 0} (wrong : A → B) (cs ds : List (Check A)) (x : B) → judge wrong (cs ++ ds) x ≡ judge wrong cs (judge wrong ds x)
+judge-append wrong [] ds x = refl
+judge-append wrong (c ∷ cs) ds x = rw (judge-append wrong cs ds x)
+
+cond-under : {B C : Type 0} (f : B → C) (t : Bool) (x y : B) → f (cond t x y) ≡ cond t (f x) (f y)
+cond-under f true x y = refl
+cond-under f false x y = refl
+
+pub judge-under : {A B C : Type 0} (f : B → C) (wrong : A → B) (cs : List (Check A)) (x : B) → f (judge wrong cs x) ≡ judge (λ a. f (wrong a)) cs (f x)
+judge-under f wrong [] x = refl
+judge-under {C = C} f wrong (c ∷ cs) x =
+    cond-under f (c .test) (judge wrong cs x) (wrong (c .fault)) ∙
+    ap (λ (y : C). cond (c .test) y (f (wrong (c .fault)))) (judge-under f wrong cs x)

@@ -1,5 +1,6 @@
 -- The theorems that specs/ states, and what they rest on.
 pub mod Judging
+pub mod Turns
 pub mod Look
 pub mod Opened
 pub mod Rows
@@ -7,8 +8,16 @@ pub mod Settle
 pub mod Limits
 pub mod Demand3
 pub mod Examples
+pub mod Pins
+pub mod AnswerRows
+pub mod RequestRows
+pub mod RefusalRows
+pub mod LogRows
+pub mod BlockRows
 pub mod Layouts
 pub mod Unique
 pub mod Counts
-pub mod Unrefused
 pub mod Inside
+pub mod Unrefused
+pub mod Demand1
+pub mod Writing

@@ -8,9 +8,9 @@ use lib.ListN.{length}
 use borrow.Author.Tests.{leb-true}
 use Rattle.rules.specs.Bytes.{every, isByte}
 use Rattle.rules.specs.Conversations.{Every}
+use Rattle.rules.specs.Counts.{Rising}
 use Rattle.rules.specs.Events.{Entry, entries, Event, reply, idle, ended, failed, timeOf, named, eventOf, sound, rising, withinLimits}
 use Rattle.rules.proofs.Judging.{both}
-use Rattle.rules.proofs.Settle.{Rising}
 
 abbrev pub OfBytes : Event → Type 0
 OfBytes (reply t p) = every isByte (p .bytes) ≡ true

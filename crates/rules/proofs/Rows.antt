@@ -10,7 +10,7 @@ use lib.Dec.{leb, eqb}
 use lib.ListN.{length, getD, take, drop, length-append, length-drop, take-append-drop}
 use lib.Seq.{drop-cons, take-all, take-append-seam, drop-append-seam}
 use borrow.Author.Tests.{leb-true, ltb-true, eqb-true, eqb-false, lt-ltb, le-leb, eq-eqb}
-use Rattle.rules.specs.After.{bounds, exactly, resetLength, transferLength, lengthBytes, blockLength, loading, checks, first, handed}
+use Rattle.rules.specs.After.{bounds, exactly, resetLength, transferLength, lengthBytes, blockLength, loading, serviceChecks, first, handed}
 use Rattle.rules.specs.Answers.{part, behind}
 use Rattle.rules.specs.Bytes.{value, u16At, two, every, isByte}
 use Rattle.rules.specs.Calls.{Call, request, session, reset, security, testerPresent, readMemory, writeMemory, readIdentifier, writeIdentifier, faultCount, routine, download, upload, transfer, transferExit, Field, sent, format, memory, sidOf, subOf, positiveSid}
@@ -123,8 +123,8 @@ module _ (at : ℕ) (r : List ℕ) (bytes : every isByte r ≡ true) where
   asking none h = rw (length-drop 2 r) (omega arith)
   asking (some d) h = tt
 
-  pub row-in : (c : Call) → Named c → getD r 0 0 ≡ positiveSid (sidOf c) → 1 ≤ length r → Echo (subOf c) r → Pass (checks true c r) → Row c at r
-  row-in (request sid sub x) n e o h p = absurd n
+  pub row-in : (c : Call) → Named c → getD r 0 0 ≡ positiveSid (sidOf c) → 1 ≤ length r → Echo (subOf c) r → Pass (serviceChecks true c r) → Row c at r
+  row-in (request sid sub x) n e o h p = absurd (n refl)
   row-in (session sub) n e o h p =
       let four = long 2 6 (within 6 r (p .0)) in
       made (session sub) (0x50 ∷ sub % 128 ∷ []) 2 (refl, four) (after-sub 0x50 sub e h) (placed 2 (only-all 4 (drop 2 r) (inl four)))
@@ -176,9 +176,10 @@ module _ (at : ℕ) (r : List ℕ) (bytes : every isByte r ≡ true) where
 -- The other way: a row's positive passes all strict checks, and its data is handed out at its place.
 pub record Fits (c : Call) (at : ℕ) (front d : List ℕ) : Type 0 where
   pub sid : getD (front ++ d) 0 0 ≡ positiveSid (sidOf c)
+  pub no-refusal : getD (front ++ d) 0 0 ≢ 0x7f
   pub some-byte : 0 < length (front ++ d)
   pub echo : Echo (subOf c) (front ++ d)
-  pub pass : Pass (checks true c (front ++ d))
+  pub pass : Pass (serviceChecks true c (front ++ d))
   pub hands : handed c (part at (front ++ d)) ≡ part (at + length front) d
 
 is-exactly : (n : ℕ) (r : List ℕ) → length r ≡ n → exactly true n r .test ≡ true
@@ -237,128 +238,86 @@ module _ (at : ℕ) where
         refl,
       )
 
-  memory-fits : (a s : Field) (x : List ℕ) → Fits (writeMemory a s x) at (0x7d ∷ []) (memory a s)
-  memory-fits a s x =
-      let joined = length-append (sent a) (sent s) in
-      record {
-        sid = refl;
+  -- A row's positive, with a sub-function and without: its checks and its data.
+  with-sub : (c : Call) (x sub : ℕ) (k d : List ℕ) {front : List ℕ} → front ≡ x ∷ sub % 128 ∷ k → x ≡ positiveSid (sidOf c) → eqb x 0x7f ≡ false → subOf c ≡ some sub
+      → Pass (serviceChecks true c (x ∷ sub % 128 ∷ k ++ d)) → handed c (part at (x ∷ sub % 128 ∷ k ++ d)) ≡ part (at + length (x ∷ sub % 128 ∷ k)) d → Fits c at front d
+  with-sub c x sub k d e s n o p h =
+      subst⁻¹ (λ (f : List ℕ). Fits c at f d) e
+      (record {
+        sid = s;
+        no-refusal = eqb-false x 0x7f n;
         some-byte = omega arith;
-        echo = tt;
-        pass = (
-          is-exactly (2 + length (sent a) + length (sent s)) (0x7d ∷ memory a s) (omega arith),
-          (
-            eq-eqb (format a s) (format a s) refl,
-            (
-              rw (take-append-seam (sent a) (sent s)) (same-self (sent a)),
-              (rw (drop-append-seam (sent a) (sent s)) (same-self (sent s)), tt),
-            ),
-          ),
-        );
-        hands = refl;
-      }
+        echo = subst⁻¹ (λ (y : Option ℕ). Echo y (x ∷ sub % 128 ∷ k ++ d)) o (omega arith, refl);
+        pass = p;
+        hands = h;
+      })
 
-  load-fits : (c : Call) (sid : ℕ) (d : List ℕ) → Loading sid (sid ∷ (length d * 16) ∷ []) d
-      → (Pass (loading true (sid ∷ (length d * 16) ∷ d) (length d * 16 / 16) (value (take (length d * 16 / 16) d))) → (take (length d * 16 / 16) d ≡ d)
-      → Fits c at (sid ∷ (length d * 16) ∷ []) d)
-      → Fits c at (sid ∷ (length d * 16) ∷ []) d
-  load-fits c sid d l made = let h = loading-fits sid d l in made (h .0) (h .1)
+  without : (c : Call) (x : ℕ) (k d : List ℕ) {front : List ℕ} → front ≡ x ∷ k → x ≡ positiveSid (sidOf c) → eqb x 0x7f ≡ false → subOf c ≡ none
+      → Pass (serviceChecks true c (x ∷ k ++ d)) → handed c (part at (x ∷ k ++ d)) ≡ part (at + length (x ∷ k)) d → Fits c at front d
+  without c x k d e s n o p h =
+      subst⁻¹ (λ (f : List ℕ). Fits c at f d) e
+      (record { sid = s; no-refusal = eqb-false x 0x7f n; some-byte = omega arith; echo = subst⁻¹ (λ (y : Option ℕ). Echo y (x ∷ k ++ d)) o tt; pass = p; hands = h })
+
+  -- Where the data is fixed too.
+  fixed : (c : Call) (front : List ℕ) {d e : List ℕ} → d ≡ e → Fits c at front e → Fits c at front d
+  fixed c front q f = subst⁻¹ (λ (l : List ℕ). Fits c at front l) q f
+
+  memory-fits : (a s : Field) (x : List ℕ) → Pass (serviceChecks true (writeMemory a s x) (0x7d ∷ memory a s))
+  memory-fits a s x =
+      let joined = length-append (sent a) (sent s) in (
+        is-exactly (2 + length (sent a) + length (sent s)) (0x7d ∷ memory a s) (omega arith),
+        (
+          eq-eqb (format a s) (format a s) refl,
+          (
+            rw (take-append-seam (sent a) (sent s)) (same-self (sent a)),
+            (rw (drop-append-seam (sent a) (sent s)) (same-self (sent s)), tt),
+          ),
+        ),
+      )
 
   pub row-out : (c : Call) (front d : List ℕ) → Positive c front d → Fits c at front d
   row-out (request sid sub x) front d p = absurd p
   row-out (session sub) front d p =
       let four = p .1 in
-      subst⁻¹ (λ (f : List ℕ). Fits (session sub) at f d) (p .0)
-      (record {
-        sid = refl;
-        some-byte = omega arith;
-        echo = (omega arith, refl);
-        pass = (is-exactly 6 (0x50 ∷ sub % 128 ∷ d) (omega arith), tt);
-        hands = in-place 2 (only-all 4 d (inl four));
-      })
+      with-sub (session sub) 0x50 sub [] d (p .0) refl refl refl (is-exactly 6 (0x50 ∷ sub % 128 ∷ d) (omega arith), tt) (in-place 2 (only-all 4 d (inl four)))
   row-out (reset sub) front d p =
       let h = reset-fits sub d (eqb (sub % 128) 4) refl (p .1) (p .2) in
-      subst⁻¹ (λ (f : List ℕ). Fits (reset sub) at f d) (p .0)
-      (record {
-        sid = refl;
-        some-byte = omega arith;
-        echo = (omega arith, refl);
-        pass = (is-exactly (resetLength sub) (0x51 ∷ sub % 128 ∷ d) (h .0), tt);
-        hands = in-place 2 (only-all 1 d (h .1));
-      })
+      with-sub (reset sub) 0x51 sub [] d (p .0) refl refl refl (is-exactly (resetLength sub) (0x51 ∷ sub % 128 ∷ d) (h .0), tt) (in-place 2 (only-all 1 d (h .1)))
   row-out (security sub x) front d p =
-      let h = security-fits sub d (eqb (sub % 2) 1) refl (p .1) (p .2) in
-      subst⁻¹ (λ (f : List ℕ). Fits (security sub x) at f d) (p .0)
-      (record { sid = refl; some-byte = omega arith; echo = (omega arith, refl); pass = (h .0, tt); hands = h .1 })
-  row-out testerPresent front d p =
-      subst⁻¹ (λ (f : List ℕ). Fits testerPresent at f d) (p .0)
-      (subst⁻¹ (λ (e : List ℕ). Fits testerPresent at (0x7e ∷ 0x00 ∷ []) e) (p .1)
-      (record { sid = refl; some-byte = omega arith; echo = (omega arith, refl); pass = (refl, tt); hands = refl }))
+      let h = security-fits sub d (eqb (sub % 2) 1) refl (p .1) (p .2) in with-sub (security sub x) 0x67 sub [] d (p .0) refl refl refl (h .0, tt) (h .1)
+  row-out testerPresent front d p = fixed testerPresent front (p .1) (with-sub testerPresent 0x7e 0 [] [] (p .0) refl refl refl (refl, tt) refl)
   row-out (readMemory a s) front d p =
       let one = p .2 in
-      subst⁻¹ (λ (f : List ℕ). Fits (readMemory a s) at f d) (p .0)
-      (record {
-        sid = refl;
-        some-byte = omega arith;
-        echo = tt;
-        pass = (eq-eqb (length d) (value (sent s)) (p .1), (le-leb 2 (suc (length d)) (omega arith), tt));
-        hands = refl;
-      })
+      without (readMemory a s) 0x63 [] d (p .0) refl refl refl (eq-eqb (length d) (value (sent s)) (p .1), (le-leb 2 (suc (length d)) (omega arith), tt)) refl
   row-out (writeMemory a s x) front d p =
-      subst⁻¹ (λ (f : List ℕ). Fits (writeMemory a s x) at f d) (p .0)
-      (subst⁻¹ (λ (e : List ℕ). Fits (writeMemory a s x) at (0x7d ∷ []) e) (p .1) (memory-fits a s x))
+      fixed (writeMemory a s x) front (p .1) (without (writeMemory a s x) 0x7d [] (memory a s) (p .0) refl refl refl (memory-fits a s x) refl)
   row-out (readIdentifier id) front d p =
       let one = p .1 in
-      subst⁻¹ (λ (f : List ℕ). Fits (readIdentifier id) at f d) (p .0)
-      (record {
-        sid = refl;
-        some-byte = omega arith;
-        echo = tt;
-        pass = (is-from 4 (0x62 ∷ two id ++ d) (omega arith), (le-leb 3 (length (0x62 ∷ two id ++ d)) (omega arith), (id-back id, tt)));
-        hands = refl;
-      })
+      without (readIdentifier id) 0x62 (two id) d (p .0) refl refl refl
+      (is-from 4 (0x62 ∷ two id ++ d) (omega arith), (le-leb 3 (length (0x62 ∷ two id ++ d)) (omega arith), (id-back id, tt)))
+      refl
   row-out (writeIdentifier id x) front d p =
-      subst⁻¹ (λ (f : List ℕ). Fits (writeIdentifier id x) at f d) (p .0)
-      (subst⁻¹ (λ (e : List ℕ). Fits (writeIdentifier id x) at (0x6e ∷ two id) e) (p .1)
-      (record { sid = refl; some-byte = omega arith; echo = tt; pass = (refl, (refl, (id-back id, tt))); hands = refl }))
+      fixed (writeIdentifier id x) front (p .1)
+      (without (writeIdentifier id x) 0x6e (two id) [] (p .0) refl refl refl (refl, (refl, (id-back id, tt))) refl)
   row-out (faultCount mask) front d p =
       let four = p .1 in
-      subst⁻¹ (λ (f : List ℕ). Fits (faultCount mask) at f d) (p .0)
-      (record {
-        sid = refl;
-        some-byte = omega arith;
-        echo = (omega arith, refl);
-        pass = (rw (le-leb 6 (suc (suc (length d))) (omega arith)) (eq-eqb (suc (suc (length d))) 6 (omega arith)), tt);
-        hands = in-place 2 (take-all 4 d (omega arith));
-      })
+      with-sub (faultCount mask) 0x59 1 [] d (p .0) refl refl refl
+      (rw (le-leb 6 (suc (suc (length d))) (omega arith)) (eq-eqb (suc (suc (length d))) 6 (omega arith)), tt)
+      (in-place 2 (take-all 4 d (omega arith)))
   row-out (routine sub id x) front d p =
-      subst⁻¹ (λ (f : List ℕ). Fits (routine sub id x) at f d) p
-      (record {
-        sid = refl;
-        some-byte = omega arith;
-        echo = (omega arith, refl);
-        pass = (le-leb 4 (length (0x71 ∷ sub % 128 ∷ two id ++ d)) (omega arith), (id-back id, tt));
-        hands = refl;
-      })
+      with-sub (routine sub id x) 0x71 sub (two id) d p refl refl refl
+      (le-leb 4 (length (0x71 ∷ sub % 128 ∷ two id ++ d)) (omega arith), (id-back id, tt))
+      refl
   row-out (download c k a s) front d p =
-      subst⁻¹ (λ (f : List ℕ). Fits (download c k a s) at f d) (p .form)
-      (load-fits (download c k a s) 0x74 d (subst (λ (f : List ℕ). Loading 0x74 f d) (p .form) p)
-      (λ h e. record { sid = refl; some-byte = omega arith; echo = tt; pass = h; hands = in-place 2 e }))
+      let h = loading-fits 0x74 d (subst (λ (f : List ℕ). Loading 0x74 f d) (p .form) p) in
+      without (download c k a s) 0x74 ((length d * 16) ∷ []) d (p .form) refl refl refl (h .0) (in-place 2 (h .1))
   row-out (upload c k a s) front d p =
-      subst⁻¹ (λ (f : List ℕ). Fits (upload c k a s) at f d) (p .form)
-      (load-fits (upload c k a s) 0x75 d (subst (λ (f : List ℕ). Loading 0x75 f d) (p .form) p)
-      (λ h e. record { sid = refl; some-byte = omega arith; echo = tt; pass = h; hands = in-place 2 e }))
+      let h = loading-fits 0x75 d (subst (λ (f : List ℕ). Loading 0x75 f d) (p .form) p) in
+      without (upload c k a s) 0x75 ((length d * 16) ∷ []) d (p .form) refl refl refl (h .0) (in-place 2 (h .1))
   row-out (transfer counter x) front d p =
-      subst⁻¹ (λ (f : List ℕ). Fits (transfer counter x) at f d) (p .0)
-      (record {
-        sid = refl;
-        some-byte = omega arith;
-        echo = tt;
-        pass = (
-          is-from (transferLength x) (0x76 ∷ counter ∷ d) (transfer-fits counter x d (p .1)),
-          (le-leb 2 (suc (suc (length d))) (omega arith), (eq-eqb counter counter refl, tt)),
-        );
-        hands = refl;
-      })
-  row-out (transferExit x) front d p =
-      subst⁻¹ (λ (f : List ℕ). Fits (transferExit x) at f d) p
-      (record { sid = refl; some-byte = omega arith; echo = tt; pass = tt; hands = refl })
+      without (transfer counter x) 0x76 (counter ∷ []) d (p .0) refl refl refl (
+        is-from (transferLength x) (0x76 ∷ counter ∷ d) (transfer-fits counter x d (p .1)),
+        (le-leb 2 (suc (suc (length d))) (omega arith), (eq-eqb counter counter refl, tt)),
+      )
+      refl
+  row-out (transferExit x) front d p = without (transferExit x) 0x77 [] d p refl refl refl tt refl

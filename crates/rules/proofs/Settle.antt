@@ -1,215 +1,148 @@
 -- The strict exchange against the events alone: a waiting that closes in time is answered, and an answer comes of one; silence likewise.
-use Prim.Native.Nat.{ℕ, _+_, _≤_, _<_}
+use Prim.Native.Nat.{ℕ, _+_, _≤_}
 use native.Mathlib.Omega.{arith}
 use mathlib.Core.Bool.{Bool, true, false, cond, false≢true}
 use mathlib.Core.Path.{_≡_, refl, sym, _∙_, ap, ap₂}
 use mathlib.Core.Logic.{_⊎_, inl, inr}
 use mathlib.Core.List.{List, [], _∷_, _++_, map}
-use lib.Dec.{leb}
 use lib.ListN.{length}
-use borrow.Author.Tests.{leb-true, leb-false, le-leb, lt-leb}
-use Rattle.rules.specs.Answers.{Part, part, nowhere, Outcome, suppressed, answer}
+use borrow.Author.Tests.{le-leb, lt-leb}
+use Rattle.rules.specs.Answers.{Part, part, nowhere, Outcome, suppressed, timeout, answer}
 use Rattle.rules.specs.Conversations.{Waiting, none, idles, notice, Paced, IsIdle, Every}
+use Rattle.rules.specs.Counts.{After, Rising}
 use Rattle.rules.specs.Demand3.{Answers}
 use Rattle.rules.specs.Events.{Event, reply, idle, ended, failed, timeOf, upTo}
-use Rattle.rules.specs.Exchange.{Asked, Step, pending, settles, Settled, settled, silence, finish, act, turn, settle, counted, look}
+use Rattle.rules.specs.Exchange.{Asked, Step, pending, settles, Settled, State, state, finish, hears, turn, silence, settle, counted, look}
 use Rattle.rules.proofs.Look.{notice-look, look-notice}
-
--- "Times in the list never fall."
-abbrev pub Rising : ℕ → List Event → Type 0
-Rising t [] = Unit {0}
-Rising t (e ∷ es) = (t ≤ timeOf e) × Rising (timeOf e) es
+use Rattle.rules.proofs.Turns.{Through, settle-on, settle-ends, settle-ind}
 
 -- Whether suppression still holds behind notices at these times.
 abbrev pub still : List ℕ → Bool → Bool
 still [] hush = hush
 still (t ∷ ts) hush = false
 
--- Behind a late event all are late.
-late-all : (es : List Event) (t d : ℕ) → d < t → Rising t es → upTo d (map timeOf es) ≡ 0
-late-all [] t d h r = refl
-late-all (e ∷ es) t d h r = rw (lt-leb (timeOf e) d (omega arith)) (omega (arith, late-all es (timeOf e) d (omega arith) (r .1)))
+still-false : (ts : List ℕ) → still ts false ≡ false
+still-false [] = refl
+still-false (t ∷ ts) = refl
 
-late-hush : (es : List Event) (t d : ℕ) → d < t → Rising t es → Every (λ e. timeOf e ≤ d → IsIdle e) es
-late-hush [] t d h r = tt
-late-hush (e ∷ es) t d h r = (λ k. absurd (omega arith), late-hush es (timeOf e) d (omega arith) (r .1))
+-- Where the first event is late all are.
+late : (es : List Event) (t d : ℕ) → Rising t es → After d es → (upTo d (map timeOf es) ≡ 0) × Every (λ e. timeOf e ≤ d → IsIdle e) es
+late [] t d r h = (refl, tt)
+late (e ∷ es) t d r h =
+    let l = late es (timeOf e) d (r .1) (next es (r .1)) in (rw (lt-leb (timeOf e) d h) (omega (arith, l .0)), (λ k. absurd (omega arith), l .1))
+  where
+    next : (es : List Event) → Rising (timeOf e) es → After d es
+    next [] r = tt
+    next (f ∷ es) r = omega arith
 
 module _ (a : Asked) where
   -- Whatever stands before the closing of a paced waiting is in time.
-  by-then : {before : List Event} {ts : List ℕ} → Waiting (a .sid) before ts → (m d t : ℕ) (p : Part) (rest : List Event)
-      → Rising m (before ++ (reply t p ∷ rest)) → Paced d (a .star) (ts ++ (t ∷ [])) → m ≤ d
-  by-then none m d t p rest r k = omega arith
-  by-then (idles {t = u} v) m d t p rest r k = let h = by-then v u d t p rest (r .1) k in omega arith
-  by-then (notice {t = u} v) m d t p rest r k = omega arith
+  by-then : {before : List Event} {ts : List ℕ} → Waiting (a .sid) before ts → (u d t : ℕ) (p : Part) (rest : List Event)
+      → Rising u (before ++ (reply t p ∷ rest)) → Paced d (a .timing .star) (ts ++ (t ∷ [])) → u ≤ d
+  by-then none u d t p rest r k = omega arith
+  by-then (idles {t = v} w) u d t p rest r k = let h = by-then w v d t p rest (r .1) k in omega arith
+  by-then (notice w) u d t p rest r k = omega arith
 
   -- A waiting that closes is answered by its closing.
-  pub reaches : {before : List Event} {ts : List ℕ} → Waiting (a .sid) before ts → (m : ℕ) (o : Outcome) (t : ℕ) (p : Part) (rest : List Event) (hush : Bool) (d : ℕ) (es ns : List ℕ)
-      → Rising m (before ++ (reply t p ∷ rest)) → Paced d (a .star) (ts ++ (t ∷ [])) → look true a (still ts hush) p ≡ settles o
-      → counted (settle true a (before ++ (reply t p ∷ rest)) hush d es ns) ≡ answer o (finish a o t) (length es + length before + 1) (length ns + length ts) p
-  unfolding settle
-  reaches none m o t p rest hush d es ns r k h =
-      rw (le-leb t d (k .0), h) (ap₂ (λ (e n : ℕ). answer o (finish a o t) e n p) (omega arith) (omega arith))
-  reaches (idles {t = u} {es = es′} {ts = ts} v) m o t p rest hush d es ns r k h =
-      rw (le-leb u d (by-then v u d t p rest (r .1) k))
-      (reaches v u o t p rest hush d (u ∷ es) ns (r .1) k h ∙ ap (λ (e : ℕ). answer o (finish a o t) e (length ns + length ts) p) (omega arith))
-  reaches (notice {t = u} {at = at} {es = es′} {ts = ts} v) m o t p rest hush d es ns r k h =
-      rw (le-leb u d (k .0), notice-look a hush at)
-      (reaches v u o t p rest false (u + a .star) (u ∷ es) (u ∷ ns) (r .1) (k .1) (still-false ts h) ∙
-      ap₂ (λ (e n : ℕ). answer o (finish a o t) e n p) (omega arith) (omega arith))
-    where
-      still-false : (ts : List ℕ) → look true a false p ≡ settles o → look true a (still ts false) p ≡ settles o
-      still-false [] e = e
-      still-false (x ∷ xs) e = e
+  pub reaches : {before : List Event} {ts : List ℕ} → Waiting (a .sid) before ts → (u : ℕ) (o : Outcome) (t : ℕ) (p : Part) (rest : List Event) (s : State)
+      → Rising u (before ++ (reply t p ∷ rest)) → Paced (s .deadline) (a .timing .star) (ts ++ (t ∷ [])) → look true a (still ts (s .hush)) p ≡ settles o
+      → counted (settle true a (before ++ (reply t p ∷ rest)) s) ≡ answer o (finish a o t) (length (s .read) + length before + 1) (length (s .notices) + length ts) p
+  reaches none u o t p rest s r k h =
+      ap counted (settle-ends true a s _ (reply t p) rest (k .0) (ap (hears a s t p) h)) ∙
+      ap₂ (λ (e n : ℕ). answer o (finish a o t) e n p) (omega arith) (omega arith)
+  reaches (idles {t = v} {ts = ts} w) u o t p rest s r k h =
+      ap counted (settle-on true a s _ (idle v) _ (by-then w v (s .deadline) t p rest (r .1) k) refl) ∙
+      reaches w v o t p rest (state (s .hush) (s .deadline) (v ∷ s .read) (s .notices)) (r .1) k h ∙
+      ap (λ (e : ℕ). answer o (finish a o t) e (length (s .notices) + length ts) p) (omega arith)
+  reaches (notice {t = v} {at = at} {ts = ts} w) u o t p rest s r k h =
+      ap counted (settle-on true a s _ (reply v (part at (0x7f ∷ a .sid ∷ 0x78 ∷ []))) _ (k .0) (ap (hears a s v (part at (0x7f ∷ a .sid ∷ 0x78 ∷ []))) (notice-look a (s .hush) at))) ∙
+      reaches w v o t p rest (state false (v + a .timing .star) (v ∷ s .read) (v ∷ s .notices)) (r .1) (k .1) (ap (λ (q : Bool). look true a q p) (still-false ts) ∙ h) ∙
+      ap₂ (λ (e n : ℕ). answer o (finish a o t) e n p) (omega arith) (omega arith)
 
   -- Silence under suppression is answered at the deadline.
-  pub hushes : (e : List Event) (m d : ℕ) (es ns : List ℕ) → Rising m e → Every (λ x. timeOf x ≤ d → IsIdle x) e
-      → counted (settle true a e true d es ns) ≡ answer suppressed d (length es + upTo d (map timeOf e)) (length ns) nowhere
-  unfolding settle
-  hushes [] m d es ns r h = ap (λ (k : ℕ). answer suppressed d k (length ns) nowhere) (omega arith)
-  hushes (x ∷ e) m d es ns r h = go x (leb (timeOf x) d) refl (h .0) (r .1) (λ t k. hushes e t d (t ∷ es) ns k (h .1))
-    where
-      go : (x : Event) (b : Bool) → leb (timeOf x) d ≡ b → (timeOf x ≤ d → IsIdle x) → Rising (timeOf x) e
-          → ((t : ℕ) → Rising t e → counted (settle true a e true d (t ∷ es) ns) ≡ answer suppressed d (length (t ∷ es) + upTo d (map timeOf e)) (length ns) nowhere)
-          → counted (cond b (turn true a (settle true a e) x true d es ns) (silence true d es ns)) ≡ answer suppressed d (length es + (cond b 1 0 + upTo d (map timeOf e))) (length ns) nowhere
-      go (idle t) true k i r on = on t r ∙ ap (λ (n : ℕ). answer suppressed d n (length ns) nowhere) (omega arith)
-      go (reply t p) true k i r on = absurd (i (leb-true t d k))
-      go (ended t) true k i r on = absurd (i (leb-true t d k))
-      go (failed t n) true k i r on = absurd (i (leb-true t d k))
-      go x false k i r on =
-          ap (λ (n : ℕ). answer suppressed d n (length ns) nowhere) (omega (arith, late-all e (timeOf x) d (leb-false (timeOf x) d k) r))
+  abbrev Hushes : State → List Event → Settled → Type 0
+  Hushes s es x =
+      (t : ℕ) → Rising t es → s .hush ≡ true → Every (λ e. timeOf e ≤ s .deadline → IsIdle e) es
+      → counted x ≡ answer suppressed (s .deadline) (length (s .read) + upTo (s .deadline) (map timeOf es)) (length (s .notices)) nowhere
 
--- An exchange that settled in s, with an answer: what its events must have been.
-module _ (a : Asked) (s : Settled) where
-  pub record Found (e : List Event) (hush : Bool) (d : ℕ) (es ns : List ℕ) : Type 0 where
+  hushes-through : (s : State) (e : Event) (es : List Event) → timeOf e ≤ s .deadline → Through Hushes s e es (turn true a s e)
+  hushes-through s (reply t p) es k = by-look (look true a (s .hush) p)
+    where
+      by-look : (z : Step) → Through Hushes s (reply t p) es (hears a s t p z)
+      by-look pending = λ x h u r q i. absurd (i .0 k)
+      by-look (settles o) = λ u r q i. absurd (i .0 k)
+  hushes-through s (idle t) es k =
+      λ x h u r q i. h t (r .1) q (i .1) ∙ rw (le-leb t (s .deadline) k) (ap (λ (n : ℕ). answer suppressed (s .deadline) n (length (s .notices)) nowhere) (omega arith))
+  hushes-through s (ended t) es k = λ u r q i. absurd (i .0 k)
+  hushes-through s (failed t n) es k = λ u r q i. absurd (i .0 k)
+
+  pub hushes : (es : List Event) (s : State) → Hushes s es (settle true a es s)
+  hushes =
+      settle-ind true a Hushes
+      (λ s es h t r q i. ap₂ (λ (b : Bool) (n : ℕ). answer (cond b suppressed timeout) (s .deadline) n (length (s .notices)) nowhere) q (omega (arith, late es t (s .deadline) r h .0)))
+      hushes-through
+
+  -- What the events of an exchange that answered o by the reply p must have been; or they were silence.
+  pub record Found (s : State) (es : List Event) (o : Outcome) (p : Part) : Type 0 where
     pub before : List Event
     pub times : List ℕ
     pub at : ℕ
     pub rest : List Event
-    pub begins : e ≡ before ++ (reply at (s .reply) ∷ rest)
+    pub begins : es ≡ before ++ (reply at p ∷ rest)
     pub waits : Waiting (a .sid) before times
-    pub paced : Paced d (a .star) (times ++ (at ∷ []))
-    pub closes : look true a (still times hush) (s .reply) ≡ settles (s .outcome)
-    pub time : s .time ≡ finish a (s .outcome) at
-    pub events : length (s .events) ≡ length es + length before + 1
-    pub notices : length (s .notices) ≡ length ns + length times
+    pub paced : Paced (s .deadline) (a .timing .star) (times ++ (at ∷ []))
+    pub closes : look true a (still times (s .hush)) p ≡ settles o
 
-  pub record Hushed (e : List Event) (hush : Bool) (d : ℕ) (es ns : List ℕ) : Type 0 where
-    pub asked : hush ≡ true
-    pub quiet : Every (λ x. timeOf x ≤ d → IsIdle x) e
-    pub outcome : s .outcome ≡ suppressed
-    pub time : s .time ≡ d
-    pub events : length (s .events) ≡ length es + upTo d (map timeOf e)
-    pub notices : length (s .notices) ≡ length ns
-    pub reply : s .reply ≡ nowhere
+  abbrev pub Hushed : State → List Event → Type 0
+  Hushed s es = (s .hush ≡ true) × Every (λ e. timeOf e ≤ s .deadline → IsIdle e) es
 
-  module _ (ok : Answers (s .outcome)) where
-    no-answer : {o : Outcome} → ¬ Answers o → o ≡ s .outcome → ⊥
-    no-answer n e = n (mathlib.Core.Path.subst⁻¹ Answers e ok)
+  abbrev pub Finds : State → List Event → Settled → Type 0
+  Finds s es x = (t : ℕ) → Rising t es → Answers (x .outcome) → Found s es (x .outcome) (x .reply) ⊎ Hushed s es
 
-    silent : (e : List Event) (hush : Bool) (d : ℕ) (es ns : List ℕ) → Every (λ x. timeOf x ≤ d → IsIdle x) e → upTo d (map timeOf e) ≡ 0
-        → silence hush d es ns ≡ s → Hushed e hush d es ns
-    silent e true d es ns q z h = record {
-      asked = refl;
-      quiet = q;
-      outcome = sym (ap (λ (x : Settled). x .outcome) h);
-      time = sym (ap (λ (x : Settled). x .time) h);
-      events = omega (arith, ap (λ (x : Settled). length (x .events)) h);
-      notices = sym (ap (λ (x : Settled). length (x .notices)) h);
-      reply = sym (ap (λ (x : Settled). x .reply) h);
-    }
-    silent e false d es ns q z h = absurd (no-answer (λ n. n) (ap (λ (x : Settled). x .outcome) h))
+  silent : (s : State) (es : List Event) → After (s .deadline) es → Finds s es (silence s)
+  silent s es h t r ok = go (s .hush) refl ok
+    where
+      go : (b : Bool) → s .hush ≡ b → Answers (cond b suppressed timeout) → Found s es (silence s .outcome) nowhere ⊎ Hushed s es
+      go false e no-answer = absurd no-answer
+      go true e k = inr (e, late es t (s .deadline) r h .1)
 
-    module _ (hush : Bool) (d : ℕ) (es ns : List ℕ) (t : ℕ) (e : List Event) where
-      past-idle : t ≤ d → Found e hush d (t ∷ es) ns ⊎ Hushed e hush d (t ∷ es) ns → Found (idle t ∷ e) hush d es ns ⊎ Hushed (idle t ∷ e) hush d es ns
-      past-idle k (inl f) = inl (record {
-        before = idle t ∷ f .before;
-        times = f .times;
-        at = f .at;
-        rest = f .rest;
-        begins = ap (λ (l : List Event). idle t ∷ l) (f .begins);
-        waits = idles (f .waits);
-        paced = f .paced;
-        closes = f .closes;
-        time = f .time;
-        events = omega (arith, f .events);
-        notices = f .notices;
-      })
-      past-idle k (inr f) = inr (record {
-        asked = f .asked;
-        quiet = (λ x. tt, f .quiet);
-        outcome = f .outcome;
-        time = f .time;
-        events = rw (le-leb t d k) (omega (arith, f .events));
-        notices = f .notices;
-        reply = f .reply;
-      })
+  past-idle : (s : State) (t : ℕ) (es : List Event) (o : Outcome) (p : Part) → let s′ = state (s .hush) (s .deadline) (t ∷ s .read) (s .notices) in
+      Found s′ es o p ⊎ Hushed s′ es → Found s (idle t ∷ es) o p ⊎ Hushed s (idle t ∷ es)
+  past-idle s t es o p (inl f) = inl (record {
+    before = idle t ∷ f .before;
+    times = f .times;
+    at = f .at;
+    rest = f .rest;
+    begins = ap (λ (l : List Event). idle t ∷ l) (f .begins);
+    waits = idles (f .waits);
+    paced = f .paced;
+    closes = f .closes;
+  })
+  past-idle s t es o p (inr h) = inr (h .0, (λ k. tt, h .1))
 
-      still-false : (ts : List ℕ) → still ts false ≡ false
-      still-false [] = refl
-      still-false (x ∷ ts) = refl
+  past-notice : (s : State) (t : ℕ) (es : List Event) (o : Outcome) (p q : Part) → t ≤ s .deadline → q .bytes ≡ 0x7f ∷ a .sid ∷ 0x78 ∷ [] →
+      let s′ = state false (t + a .timing .star) (t ∷ s .read) (t ∷ s .notices) in Found s′ es o p ⊎ Hushed s′ es → Found s (reply t q ∷ es) o p
+  past-notice s t es o p q k n (inl f) = record {
+    before = reply t (part (q .at) (0x7f ∷ a .sid ∷ 0x78 ∷ [])) ∷ f .before;
+    times = t ∷ f .times;
+    at = f .at;
+    rest = f .rest;
+    begins = ap₂ (λ (bs : List ℕ) (l : List Event). reply t (part (q .at) bs) ∷ l) n (f .begins);
+    waits = notice (f .waits);
+    paced = (k, f .paced);
+    closes = ap (λ (b : Bool). look true a b p) (sym (still-false (f .times))) ∙ f .closes;
+  }
+  past-notice s t es o p q k n (inr h) = absurd (false≢true (h .0))
 
-      past-notice : (p : Part) → t ≤ d → p .bytes ≡ 0x7f ∷ a .sid ∷ 0x78 ∷ [] → Found e false (t + a .star) (t ∷ es) (t ∷ ns) ⊎ Hushed e false (t + a .star) (t ∷ es) (t ∷ ns)
-          → Found (reply t p ∷ e) hush d es ns
-      past-notice p k n (inl f) = record {
-        before = reply t (part (p .at) (0x7f ∷ a .sid ∷ 0x78 ∷ [])) ∷ f .before;
-        times = t ∷ f .times;
-        at = f .at;
-        rest = f .rest;
-        begins = ap₂ (λ (bs : List ℕ) (l : List Event). reply t (part (p .at) bs) ∷ l) n (f .begins);
-        waits = notice (f .waits);
-        paced = (k, f .paced);
-        closes = ap (λ (q : Bool). look true a q (s .reply)) (sym (still-false (f .times))) ∙ f .closes;
-        time = f .time;
-        events = omega (arith, f .events);
-        notices = omega (arith, f .notices);
-      }
-      past-notice p k n (inr f) = absurd (false≢true (f .asked))
+  through : (s : State) (e : Event) (es : List Event) → timeOf e ≤ s .deadline → Through Finds s e es (turn true a s e)
+  through s (reply t p) es k = by-look (look true a (s .hush) p) refl
+    where
+      by-look : (z : Step) → look true a (s .hush) p ≡ z → Through Finds s (reply t p) es (hears a s t p z)
+      by-look pending l = λ x h u r ok. inl (past-notice s t es (x .outcome) (x .reply) p k (look-notice a (s .hush) p l) (h t (r .1) ok))
+      by-look (settles o) l = λ u r ok. inl (record { before = []; times = []; at = t; rest = es; begins = refl; waits = none; paced = (k, tt); closes = l })
+  through s (idle t) es k = λ x h u r ok. past-idle s t es (x .outcome) (x .reply) (h t (r .1) ok)
+  through s (ended t) es k = λ u r ok. absurd ok
+  through s (failed t n) es k = λ u r ok. absurd ok
 
-      by-reply : (p : Part) (o : Outcome) → t ≤ d → look true a hush p ≡ settles o → settled o (finish a o t) (t ∷ es) ns p ≡ s → Found (reply t p ∷ e) hush d es ns
-      by-reply p o k l h =
-          let same-reply : p ≡ s .reply = ap (λ (x : Settled). x .reply) h in
-          let same-outcome : o ≡ s .outcome = ap (λ (x : Settled). x .outcome) h in
-          record {
-            before = [];
-            times = [];
-            at = t;
-            rest = e;
-            begins = ap (λ (q : Part). reply t q ∷ e) same-reply;
-            waits = none;
-            paced = (k, tt);
-            closes = ap (λ (q : Part). look true a hush q) (sym same-reply) ∙ l ∙ ap settles same-outcome;
-            time = sym (ap (λ (x : Settled). x .time) h) ∙ ap (λ (x : Outcome). finish a x t) same-outcome;
-            events = omega (arith, ap (λ (x : Settled). length (x .events)) h);
-            notices = omega (arith, ap (λ (x : Settled). length (x .notices)) h);
-          }
-
-    pub found : (e : List Event) (m : ℕ) (hush : Bool) (d : ℕ) (es ns : List ℕ) → Rising m e → settle true a e hush d es ns ≡ s
-        → Found e hush d es ns ⊎ Hushed e hush d es ns
-    unfolding settle
-    found [] m hush d es ns r h = inr (silent [] hush d es ns tt refl h)
-    found (x ∷ e) m hush d es ns r h =
-        go x (leb (timeOf x) d) refl (r .1) h (λ q k es′ ns′ r′. found e (timeOf x) q k es′ ns′ r′)
-      where
-        Ends : Event → Type 0
-        Ends x = Found (x ∷ e) hush d es ns ⊎ Hushed (x ∷ e) hush d es ns
-
-        On : Event → Type 0
-        On x =
-            (q : Bool) (k : ℕ) (es′ ns′ : List ℕ) → Rising (timeOf x) e → settle true a e q k es′ ns′ ≡ s
-            → Found e q k es′ ns′ ⊎ Hushed e q k es′ ns′
-
-        by-look : (t : ℕ) (p : Part) (z : Step) → look true a hush p ≡ z → t ≤ d → Rising t e → act a t p (settle true a e) es ns z ≡ s → On (reply t p)
-            → Ends (reply t p)
-        by-look t p pending l k r h on =
-            inl (past-notice hush d es ns t e p k (look-notice a hush p l) (on false (t + a .star) (t ∷ es) (t ∷ ns) r h))
-        by-look t p (settles o) l k r h on = inl (by-reply hush d es ns t e p o k l h)
-
-        go : (x : Event) (b : Bool) → leb (timeOf x) d ≡ b → Rising (timeOf x) e → cond b (turn true a (settle true a e) x hush d es ns) (silence hush d es ns) ≡ s
-            → On x → Ends x
-        go (reply t p) true k r h on = by-look t p (look true a hush p) refl (leb-true t d k) r h on
-        go (idle t) true k r h on = past-idle hush d es ns t e (leb-true t d k) (on hush d (t ∷ es) ns r h)
-        go (ended t) true k r h on = absurd (no-answer (λ n. n) (ap (λ (y : Settled). y .outcome) h))
-        go (failed t n) true k r h on = absurd (no-answer (λ n. n) (ap (λ (y : Settled). y .outcome) h))
-        go x false k r h on =
-            let late = leb-false (timeOf x) d k in
-            inr (silent (x ∷ e) hush d es ns (late-hush (x ∷ e) (timeOf x) d late (omega arith, r)) (late-all (x ∷ e) (timeOf x) d late (omega arith, r)) h)
+  pub found : (es : List Event) (s : State) → Finds s es (settle true a es s)
+  found = settle-ind true a Finds silent through

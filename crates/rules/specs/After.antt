@@ -8,7 +8,7 @@ use lib.ListN.{length, getD, take, drop}
 use Rattle.rules.specs.Answers.{Part, part, behind, Fault, deviation, overflow, lengthError, Outcome, positive, fault, ifPositive, Answer, answer}
 use Rattle.rules.specs.Bytes.{value, u16At, same}
 use Rattle.rules.specs.Calls.{Call, request, session, reset, security, testerPresent, readMemory, writeMemory, readIdentifier, writeIdentifier, faultCount, routine, download, upload, transfer, transferExit, sent, format, numbered, loads, head}
-use Rattle.rules.specs.Checks.{Check, unless, judge, inStrict}
+use Rattle.rules.specs.InOrder.{Check, unless, judge, inStrict}
 use Rattle.rules.specs.Settings.{Timing}
 
 -- "Strict bounds of total length": (least, most), or (least, none).
@@ -17,18 +17,18 @@ most none n = true
 most (some k) n = leb n k
 
 abbrev pub bounds : Bool → ℕ → Option ℕ → List ℕ → Check Fault
-bounds m least upper r = unless (inStrict m (leb least (length r) && most upper (length r))) (lengthError m least upper)
+bounds strict least upper r = unless (inStrict strict (leb least (length r) && most upper (length r))) (lengthError strict least upper)
 
 abbrev pub exactly : Bool → ℕ → List ℕ → Check Fault
-exactly m n r = bounds m n (some n) r
+exactly strict n r = bounds strict n (some n) r
 
 -- "Both modes then": so many bytes in all, else (least, none).
 abbrev pub atLeast : Bool → ℕ → List ℕ → Check Fault
-atLeast m least r = unless (leb least (length r)) (lengthError m least none)
+atLeast strict least r = unless (leb least (length r)) (lengthError strict least none)
 
 -- "Strict echoes": a test that is deviation n where it fails.
 abbrev pub strictly : Bool → Bool → ℕ → Check Fault
-strictly m t n = unless (inStrict m t) (deviation n)
+strictly strict t n = unless (inStrict strict t) (deviation n)
 
 -- "2 (3, 3) or (2, 2)"
 abbrev pub resetLength : ℕ → ℕ
@@ -47,38 +47,38 @@ abbrev pub blockLength : List ℕ → List ℕ
 blockLength r = take (lengthBytes r) (drop 2 r)
 
 abbrev pub loading : Bool → List ℕ → ℕ → ℕ → List (Check Fault)
-loading m r n v =
-    atLeast m 2 r ∷
-    strictly m (eqb (getD r 1 0 % 16) 0) 10 ∷
-    strictly m (ltb 0 n) 9 ∷
-    unless (leb (n + 2) (length r) && inStrict m (leb (length r) (n + 2))) (lengthError m (n + 2) (some (n + 2))) ∷
-    strictly m (leb 3 v) 11 ∷
+loading strict r n v =
+    atLeast strict 2 r ∷
+    strictly strict (eqb (getD r 1 0 % 16) 0) 10 ∷
+    strictly strict (ltb 0 n) 9 ∷
+    unless (leb (n + 2) (length r) && inStrict strict (leb (length r) (n + 2))) (lengthError strict (n + 2) (some (n + 2))) ∷
+    strictly strict (leb 3 v) 11 ∷
     unless (ltb v (2 ^ 64)) overflow ∷ []
 
 -- The checks of each call; r is the whole reply.
-abbrev pub checks : Bool → Call → List ℕ → List (Check Fault)
-checks m (request sid sub x) r = []
-checks m (session sub) r = exactly m 6 r ∷ []
-checks m (reset sub) r = exactly m (resetLength sub) r ∷ []
-checks m (security sub x) r = cond (eqb (sub % 2) 1) (bounds m 3 none r) (exactly m 2 r) ∷ []
-checks m testerPresent r = exactly m 2 r ∷ []
-checks m (readMemory a s) r =
-    strictly m (eqb (length (drop 1 r)) (value (sent s))) 15 ∷ unless (inStrict m (leb 2 (length r))) (lengthError m 2 none) ∷ []
-checks m (writeMemory a s x) r =
-    exactly m (2 + length (sent a) + length (sent s)) r ∷
-    strictly m (eqb (getD r 1 0) (format a s)) 12 ∷
-    strictly m (same (take (length (sent a)) (drop 2 r)) (sent a)) 13 ∷
-    strictly m (same (drop (length (sent a)) (drop 2 r)) (sent s)) 14 ∷ []
-checks m (readIdentifier id) r = bounds m 4 none r ∷ atLeast m 3 r ∷ strictly m (eqb (u16At r 1) id) 5 ∷ []
-checks m (writeIdentifier id x) r = exactly m 3 r ∷ atLeast m 3 r ∷ strictly m (eqb (u16At r 1) id) 5 ∷ []
-checks m (faultCount mask) r =
-    unless (leb 6 (length r) && inStrict m (eqb (length r) 6)) (lengthError m 6 (some 6)) ∷ []
-checks m (routine sub id x) r = atLeast m 4 r ∷ strictly m (eqb (u16At r 2) id) 6 ∷ []
-checks m (download c e a s) r = loading m r (lengthBytes r) (value (blockLength r))
-checks m (upload c e a s) r = loading m r (lengthBytes r) (value (blockLength r))
-checks m (transfer counter x) r =
-    bounds m (transferLength x) none r ∷ atLeast m 2 r ∷ strictly m (eqb (getD r 1 0) counter) 7 ∷ []
-checks m (transferExit x) r = []
+abbrev pub serviceChecks : Bool → Call → List ℕ → List (Check Fault)
+serviceChecks strict (request sid sub x) r = []
+serviceChecks strict (session sub) r = exactly strict 6 r ∷ []
+serviceChecks strict (reset sub) r = exactly strict (resetLength sub) r ∷ []
+serviceChecks strict (security sub x) r = cond (eqb (sub % 2) 1) (bounds strict 3 none r) (exactly strict 2 r) ∷ []
+serviceChecks strict testerPresent r = exactly strict 2 r ∷ []
+serviceChecks strict (readMemory a s) r =
+    strictly strict (eqb (length (drop 1 r)) (value (sent s))) 15 ∷ unless (inStrict strict (leb 2 (length r))) (lengthError strict 2 none) ∷ []
+serviceChecks strict (writeMemory a s x) r =
+    exactly strict (2 + length (sent a) + length (sent s)) r ∷
+    strictly strict (eqb (getD r 1 0) (format a s)) 12 ∷
+    strictly strict (same (take (length (sent a)) (drop 2 r)) (sent a)) 13 ∷
+    strictly strict (same (drop (length (sent a)) (drop 2 r)) (sent s)) 14 ∷ []
+serviceChecks strict (readIdentifier id) r = bounds strict 4 none r ∷ atLeast strict 3 r ∷ strictly strict (eqb (u16At r 1) id) 5 ∷ []
+serviceChecks strict (writeIdentifier id x) r = exactly strict 3 r ∷ atLeast strict 3 r ∷ strictly strict (eqb (u16At r 1) id) 5 ∷ []
+serviceChecks strict (faultCount mask) r =
+    unless (leb 6 (length r) && inStrict strict (eqb (length r) 6)) (lengthError strict 6 (some 6)) ∷ []
+serviceChecks strict (routine sub id x) r = atLeast strict 4 r ∷ strictly strict (eqb (u16At r 2) id) 6 ∷ []
+serviceChecks strict (download c e a s) r = loading strict r (lengthBytes r) (value (blockLength r))
+serviceChecks strict (upload c e a s) r = loading strict r (lengthBytes r) (value (blockLength r))
+serviceChecks strict (transfer counter x) r =
+    bounds strict (transferLength x) none r ∷ atLeast strict 2 r ∷ strictly strict (eqb (getD r 1 0) counter) 7 ∷ []
+serviceChecks strict (transferExit x) r = []
 
 -- A part's first n bytes; the part if it has n bytes, and else none of it.
 abbrev pub first : ℕ → Part → Part
@@ -107,11 +107,11 @@ handed (transferExit x) p = behind 1 p
 
 -- "The checks after a positive come later still and keep its finishing time."
 unfoldable pub checked : Bool → Call → Part → Outcome
-checked m c p = judge fault (checks m c (p .bytes)) (positive (handed c p))
+checked strict c p = judge fault (serviceChecks strict c (p .bytes)) (positive (handed c p))
 
 abbrev pub after : Bool → Call → Answer → Answer
-after m c x =
-    answer (ifPositive (x .outcome) (λ d. checked m c (x .reply)) (x .outcome)) (x .time) (x .events) (x .notices) (x .reply)
+after strict c x =
+    answer (ifPositive (x .outcome) (λ d. checked strict c (x .reply)) (x .outcome)) (x .time) (x .events) (x .notices) (x .reply)
 
 -- "They also return the value as a number; lenient n = 0 gives 0." Of the other calls, and of other outcomes, 0.
 abbrev pub numberOf : Call → Outcome → ℕ

@@ -3,7 +3,7 @@ use Prim.Native.Nat.{ℕ, _+_, _*_, _%_}
 use mathlib.Core.List.{List, [], _∷_}
 use lib.Dec.{ltb}
 use lib.ListN.{length, take, drop}
-use Rattle.rules.specs.Checks.{Check, unless}
+use Rattle.rules.specs.InOrder.{Check, unless}
 
 -- "block k (from 0) carries bytes k·N up to (k+1)·N or the end"
 unfoldable pub block : List ℕ → ℕ → ℕ → List ℕ

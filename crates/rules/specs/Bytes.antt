@@ -1,7 +1,7 @@
 -- Bytes, and numbers as bytes, high byte first. Nothing here is document 01's or the standard's.
 use Prim.Native.Nat.{ℕ, zero, suc, _+_, _*_, _/_, _%_, _^_}
 use mathlib.Core.Bool.{Bool, true, false, _&&_}
-use mathlib.Core.List.{List, [], _∷_}
+use mathlib.Core.List.{List, [], _∷_, _++_}
 use lib.Dec.{eqb, ltb}
 use lib.ListN.{getD}
 
@@ -28,6 +28,10 @@ u32At bs i = u16At bs i * 65536 + u16At bs (i + 2)
 -- A number below 65,536 as its two bytes.
 abbrev pub two : ℕ → List ℕ
 two n = n / 256 ∷ n % 256 ∷ []
+
+-- A number below 4,294,967,296 as its four bytes.
+abbrev pub four : ℕ → List ℕ
+four n = two (n / 65536) ++ two (n % 65536)
 
 -- Whether two byte strings are the same.
 abbrev pub same : List ℕ → List ℕ → Bool

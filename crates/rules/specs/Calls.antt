@@ -36,63 +36,6 @@ pub data Call : Type 0 where
   transfer : ℕ → Option (List ℕ) → Call
   transferExit : Option (List ℕ) → Call
 
--- The calls' numbers.
-abbrev pub numbered : Call → ℕ
-numbered (request sid sub d) = 0
-numbered (session sub) = 1
-numbered (reset sub) = 2
-numbered (security sub d) = 3
-numbered testerPresent = 4
-numbered (readMemory a s) = 5
-numbered (writeMemory a s d) = 6
-numbered (readIdentifier id) = 7
-numbered (writeIdentifier id d) = 8
-numbered (faultCount mask) = 9
-numbered (routine sub id d) = 10
-numbered (download c e a s) = 11
-numbered (upload c e a s) = 12
-numbered (transfer counter d) = 13
-numbered (transferExit d) = 14
-
--- Calls 11 and 12.
-abbrev pub loads : Call → Bool
-loads c = eqb (numbered c) 11 || eqb (numbered c) 12
-
-abbrev pub sidOf : Call → ℕ
-sidOf (request sid sub d) = sid
-sidOf (session sub) = 0x10
-sidOf (reset sub) = 0x11
-sidOf (security sub d) = 0x27
-sidOf testerPresent = 0x3e
-sidOf (readMemory a s) = 0x23
-sidOf (writeMemory a s d) = 0x3d
-sidOf (readIdentifier id) = 0x22
-sidOf (writeIdentifier id d) = 0x2e
-sidOf (faultCount mask) = 0x19
-sidOf (routine sub id d) = 0x31
-sidOf (download c e a s) = 0x34
-sidOf (upload c e a s) = 0x35
-sidOf (transfer counter d) = 0x36
-sidOf (transferExit d) = 0x37
-
--- The sub-function that the caller gives or the table fixes.
-abbrev pub subOf : Call → Option ℕ
-subOf (request sid sub d) = sub
-subOf (session sub) = some sub
-subOf (reset sub) = some sub
-subOf (security sub d) = some sub
-subOf testerPresent = some 0
-subOf (readMemory a s) = none
-subOf (writeMemory a s d) = none
-subOf (readIdentifier id) = none
-subOf (writeIdentifier id d) = none
-subOf (faultCount mask) = some 1
-subOf (routine sub id d) = some sub
-subOf (download c e a s) = none
-subOf (upload c e a s) = none
-subOf (transfer counter d) = none
-subOf (transferExit d) = none
-
 -- "The suppressed client sets bit 7 in calls 0 (if it has a sub-function), 1, 2, 3, 4, 9, 10; in others it changes nothing."
 abbrev pub withBit7 : Bool → Option ℕ → Option ℕ
 withBit7 quiet none = none
@@ -125,23 +68,49 @@ abbrev pub orNone : Option (List ℕ) → List ℕ
 orNone none = []
 orNone (some d) = d
 
--- The table's request behind SID and sub-function. "m = compression × 16 + encryption."
+-- A row for each call: its number, its SID, the sub-function that the caller gives or the table fixes, and the request behind them.
+pub record Row : Type 0 where
+  pub number : ℕ
+  pub sid : ℕ
+  pub sub : Option ℕ
+  pub parameters : List ℕ
+
+abbrev pub row : ℕ → ℕ → Option ℕ → List ℕ → Row
+row n sid sub ps = record { number = n; sid = sid; sub = sub; parameters = ps }
+
+-- The table's calls and requests. "m = compression × 16 + encryption."
+abbrev pub table : Call → Row
+table (request sid sub d) = row 0 sid sub (orNone d)
+table (session sub) = row 1 0x10 (some sub) []
+table (reset sub) = row 2 0x11 (some sub) []
+table (security sub d) = row 3 0x27 (some sub) (orNone d)
+table testerPresent = row 4 0x3e (some 0) []
+table (readMemory a s) = row 5 0x23 none (memory a s)
+table (writeMemory a s d) = row 6 0x3d none (memory a s ++ d)
+table (readIdentifier id) = row 7 0x22 none (two id)
+table (writeIdentifier id d) = row 8 0x2e none (two id ++ d)
+table (faultCount mask) = row 9 0x19 (some 1) (mask ∷ [])
+table (routine sub id d) = row 10 0x31 (some sub) (two id ++ orNone d)
+table (download c e a s) = row 11 0x34 none ((c * 16 + e) ∷ memory a s)
+table (upload c e a s) = row 12 0x35 none ((c * 16 + e) ∷ memory a s)
+table (transfer counter d) = row 13 0x36 none (counter ∷ orNone d)
+table (transferExit d) = row 14 0x37 none (orNone d)
+
+abbrev pub numbered : Call → ℕ
+numbered c = table c .number
+
+abbrev pub sidOf : Call → ℕ
+sidOf c = table c .sid
+
+abbrev pub subOf : Call → Option ℕ
+subOf c = table c .sub
+
 abbrev pub parameters : Call → List ℕ
-parameters (request sid sub d) = orNone d
-parameters (session sub) = []
-parameters (reset sub) = []
-parameters (security sub d) = orNone d
-parameters testerPresent = []
-parameters (readMemory a s) = memory a s
-parameters (writeMemory a s d) = memory a s ++ d
-parameters (readIdentifier id) = two id
-parameters (writeIdentifier id d) = two id ++ d
-parameters (faultCount mask) = mask ∷ []
-parameters (routine sub id d) = two id ++ orNone d
-parameters (download c e a s) = (c * 16 + e) ∷ memory a s
-parameters (upload c e a s) = (c * 16 + e) ∷ memory a s
-parameters (transfer counter d) = counter ∷ orNone d
-parameters (transferExit d) = orNone d
+parameters c = table c .parameters
+
+-- Calls 11 and 12.
+abbrev pub loads : Call → Bool
+loads c = eqb (numbered c) 11 || eqb (numbered c) 12
 
 abbrev pub byte : Option ℕ → List ℕ
 byte none = []

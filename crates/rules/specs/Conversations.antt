@@ -25,8 +25,8 @@ Paced by star (t ∷ ts) = (t ≤ by) × Paced (t + star) star ts
 
 -- "7F SID code with code other than 78; or the table's strict positive, which under suppression needs at least one notice before it"
 pub data Closing (w : Setting) (c : Call) (notices : List ℕ) (p : Part) : Outcome → Type 0 where
-  refuses : {code : ℕ} → code ≢ 0x78 → p .bytes ≡ 0x7f ∷ sidOf c ∷ code ∷ [] → Closing w c notices p (negative code)
-  grants : (head d : List ℕ) → Positive c head d → (suppressing w c ≡ true → notices ≢ []) → p .bytes ≡ head ++ d
+  byNegative : {code : ℕ} → code ≢ 0x78 → p .bytes ≡ 0x7f ∷ sidOf c ∷ code ∷ [] → Closing w c notices p (negative code)
+  byPositive : (head d : List ℕ) → Positive c head d → (suppressing w c ≡ true → notices ≢ []) → p .bytes ≡ head ++ d
       → Closing w c notices p (positive (part (p .at + length head) d))
 
 -- The events begin with idles and notices, then one closing. "finishing time is the closing's, or under suppression P2 if later."

@@ -16,42 +16,55 @@ isPending (settles o) = false
 
 -- A reply that asks for patience.
 abbrev pub isNotice : Bool → Asked → Event → Bool
-isNotice m a (reply t p) = isPending (look m a false p)
-isNotice m a (idle t) = false
-isNotice m a (ended t) = false
-isNotice m a (failed t n) = false
+isNotice strict a (reply t p) = isPending (look strict a false p)
+isNotice strict a (idle t) = false
+isNotice strict a (ended t) = false
+isNotice strict a (failed t n) = false
 
 -- An event that settles nothing: an idle or a notice.
 abbrev pub passes : Bool → Asked → Event → Bool
-passes m a (reply t p) = isPending (look m a false p)
-passes m a (idle t) = true
-passes m a (ended t) = false
-passes m a (failed t n) = false
+passes strict a (reply t p) = isPending (look strict a false p)
+passes strict a (idle t) = true
+passes strict a (ended t) = false
+passes strict a (failed t n) = false
 
 abbrev pub noticesIn : Bool → Asked → List Event → List Event
-noticesIn m a [] = []
-noticesIn m a (e ∷ es) = cond (isNotice m a e) (e ∷ noticesIn m a es) (noticesIn m a es)
+noticesIn strict a [] = []
+noticesIn strict a (e ∷ es) = cond (isNotice strict a e) (e ∷ noticesIn strict a es) (noticesIn strict a es)
 
 abbrev pub After : ℕ → List Event → Type 0
 After t [] = Unit {0}
 After t (e ∷ es) = t < timeOf e
 
+-- "Times in the list never fall."
+abbrev pub Rising : ℕ → List Event → Type 0
+Rising t [] = Unit {0}
+Rising t (e ∷ es) = (t ≤ timeOf e) × Rising (timeOf e) es
+
 -- The events read end in the one that settles; or none settles, and the next comes after the finishing time.
 abbrev pub UpToSettling : Bool → Asked → List Event → List Event → ℕ → Type 0
-UpToSettling m a read rest time =
-    ((before : List Event) × (e : Event) × (read ≡ before ++ (e ∷ [])) × Every (λ x. passes m a x ≡ true) before × (passes m a e ≡ false)) ⊎
-    (Every (λ x. passes m a x ≡ true) read × After time rest)
+UpToSettling strict a read rest time =
+    ((before : List Event) × (e : Event) × (read ≡ before ++ (e ∷ [])) × Every (λ x. passes strict a x ≡ true) before × (passes strict a e ≡ false)) ⊎
+    (Every (λ x. passes strict a x ≡ true) read × After time rest)
 
-pub record Counted (m : Bool) (a : Asked) (es : List Event) : Type 0 where
+-- These are the events read by an exchange that finished at this time: up to the one that settles, none of them later than that.
+pub record Reads (strict : Bool) (a : Asked) (es : List Event) (time : ℕ) (read rest : List Event) : Type 0 where
+  pub begins : es ≡ read ++ rest
+  pub settling : UpToSettling strict a read rest time
+  pub in-time : Rising 0 es → Every (λ e. timeOf e ≤ time) read
+
+pub record Counted (strict : Bool) (a : Asked) (es : List Event) : Type 0 where
   pub read : List Event
   pub rest : List Event
-  pub begins : es ≡ read ++ rest
-  pub settling : UpToSettling m a read rest (exchange m a none es .time)
-  pub events : exchange m a none es .events ≡ length read
-  pub notices : exchange m a none es .notices ≡ length (noticesIn m a read)
-  pub in-limit : (limit : ℕ) → exchange m a none es .time ≤ limit → exchange m a (some limit) es ≡ exchange m a none es
-  pub over-limit : (limit : ℕ) → limit < exchange m a none es .time →
-      (exchange m a (some limit) es .events ≡ upTo limit (map timeOf read)) × (exchange m a (some limit) es .notices ≡ upTo limit (map timeOf (noticesIn m a read)))
+  pub reads : Reads strict a es (exchange strict a none es .time) read rest
+  pub no-others : Rising 0 es → (read′ rest′ : List Event) → Reads strict a es (exchange strict a none es .time) read′ rest′
+      → (read′ ≡ read) × (rest′ ≡ rest)
+  pub events : exchange strict a none es .events ≡ length read
+  pub notices : exchange strict a none es .notices ≡ length (noticesIn strict a read)
+  pub within-overall : (overall : ℕ) → exchange strict a none es .time ≤ overall → exchange strict a (some overall) es ≡ exchange strict a none es
+  pub past-overall : (overall : ℕ) → overall < exchange strict a none es .time →
+      (exchange strict a (some overall) es .events ≡ upTo overall (map timeOf read)) ×
+      (exchange strict a (some overall) es .notices ≡ upTo overall (map timeOf (noticesIn strict a read)))
 
 abbrev pub Counts : Type 0
-Counts = (m : Bool) (a : Asked) (es : List Event) → Counted m a es
+Counts = (strict : Bool) (a : Asked) (es : List Event) → Counted strict a es

@@ -8,6 +8,9 @@ use Rattle.rules.specs.Answers.{Part, part}
 use Rattle.rules.specs.Bytes.{u16At, u32At, every, isByte}
 
 -- "Event, 10 bytes: time u32, kind u16, offset into reply bytes u16, length u16; kind 3 puts its number in length."
+abbrev pub eventSize : ℕ
+eventSize = 10
+
 pub record Entry : Type 0 where
   pub time : ℕ
   pub kind : ℕ
@@ -17,10 +20,10 @@ pub record Entry : Type 0 where
 abbrev pub entryAt : List ℕ → ℕ → Entry
 entryAt bs i =
     record {
-      time = u32At bs (i * 10);
-      kind = u16At bs (i * 10 + 4);
-      offset = u16At bs (i * 10 + 6);
-      size = u16At bs (i * 10 + 8);
+      time = u32At bs (i * eventSize);
+      kind = u16At bs (i * eventSize + 4);
+      offset = u16At bs (i * eventSize + 6);
+      size = u16At bs (i * eventSize + 8);
     }
 
 -- n entries, from the one numbered i on.
@@ -29,7 +32,7 @@ entriesFrom bs zero i = []
 entriesFrom bs (suc n) i = entryAt bs i ∷ entriesFrom bs n (suc i)
 
 abbrev pub entries : List ℕ → List Entry
-entries bs = entriesFrom bs (length bs / 10) 0
+entries bs = entriesFrom bs (length bs / eventSize) 0
 
 -- "Event kinds: 0 reply, 1 idle, 2 end of stream, 3 transport error with a number"
 pub data Event : Type 0 where
@@ -75,7 +78,7 @@ rising t (e ∷ es) = leb t (e .time) && rising (e .time) es
 -- The limits whose breach is refusal 10. "At most 512 events"; "Every event is checked, those never read too."
 unfoldable pub withinLimits : List ℕ → List ℕ → Bool
 withinLimits events replies =
-    eqb (length events % 10) 0 &&
-    leb (length events / 10) 512 &&
+    eqb (length events % eventSize) 0 &&
+    leb (length events / eventSize) 512 &&
     rising 0 (entries events) &&
     every (sound replies) (entries events)

@@ -1,75 +1,86 @@
 -- The layouts: document 01's requests and strict positives are the standard's, for the arguments named here.
 use Prim.Native.Nat.{ℕ, _%_, _^_, _≤_, _<_}
-use mathlib.Core.Bool.{true, cond}
+use mathlib.Core.Bool.{Bool, true, cond}
 use mathlib.Core.Path.{_≡_}
 use mathlib.Core.Logic.{_≢_, _↔_}
-use mathlib.Core.List.{List, _++_}
+use mathlib.Core.List.{List, [], _∷_, _++_}
+use mathlib.Core.Option.{Option, none, some}
 use lib.Dec.{eqb}
-use lib.ListN.{length}
-use Rattle.rules.specs.Bytes.{value}
-use Rattle.rules.specs.Calls.{Call, request, session, reset, security, testerPresent, readMemory, writeMemory, readIdentifier, writeIdentifier, faultCount, routine, download, upload, transfer, transferExit, Field, sent, orNone, loads, positiveSid, requestOf}
+use lib.ListN.{length, take, drop}
+use Rattle.rules.specs.Answers.{Part, negative}
+use Rattle.rules.specs.Bytes.{value, every, isByte}
+use Rattle.rules.specs.Calls.{Call, request, session, reset, security, testerPresent, readMemory, writeMemory, readIdentifier, writeIdentifier, faultCount, routine, download, upload, transfer, transferExit, Field, given, alfid, sent, orNone, loads, positiveSid, sidOf, requestOf}
+use Rattle.rules.specs.Client.{call}
+use Rattle.rules.specs.Conversations.{Waiting, Closing}
+use Rattle.rules.specs.Demand3.{Refused}
+use Rattle.rules.specs.Events.{Event, reply}
 use Rattle.rules.specs.Iso as Iso
 use Rattle.rules.specs.Positives.{Positive}
-use Rattle.rules.specs.Settings.{Setting, suppressing}
+use Rattle.rules.specs.Settings.{Setting, Lent, suppressing}
 
--- The standard's service for the same arguments. (Call 0 is any service, and the layouts do not speak of it.)
-abbrev pub service : Setting → Call → Iso.Service
-service w (request sid sub d) = Iso.RequestTransferExit (orNone d)
-service w (session sub) = Iso.DiagnosticSessionControl (suppressing w (session sub)) (sub % 128)
-service w (reset sub) = Iso.ECUReset (suppressing w (reset sub)) (sub % 128)
-service w (security sub d) =
-    cond (eqb (sub % 2) 1) (Iso.RequestSeed (suppressing w (security sub d)) (sub % 128) (orNone d))
-    (Iso.SendKey (suppressing w (security sub d)) (sub % 128) (orNone d))
-service w testerPresent = Iso.TesterPresent (suppressing w testerPresent)
-service w (readMemory a s) = Iso.ReadMemoryByAddress (sent a) (sent s)
-service w (writeMemory a s d) = Iso.WriteMemoryByAddress (sent a) (sent s) d
-service w (readIdentifier id) = Iso.ReadDataByIdentifier id
-service w (writeIdentifier id d) = Iso.WriteDataByIdentifier id d
-service w (faultCount mask) = Iso.ReportNumberOfDTCByStatusMask (suppressing w (faultCount mask)) mask
-service w (routine sub id d) = Iso.RoutineControl (suppressing w (routine sub id d)) (sub % 128) id (orNone d)
-service w (download c e a s) = Iso.RequestDownload c e (sent a) (sent s)
-service w (upload c e a s) = Iso.RequestUpload c e (sent a) (sent s)
-service w (transfer counter d) = Iso.TransferData counter d
-service w (transferExit d) = Iso.RequestTransferExit (orNone d)
+abbrev pub Any : Type 0
+Any = Unit {0}
+
+-- An argument of one byte, of two, and of bytes.
+abbrev pub U8 : ℕ → Type 0
+U8 n = n < 256
+
+abbrev pub U16 : ℕ → Type 0
+U16 n = n < 65536
+
+abbrev pub Bytes : List ℕ → Type 0
+Bytes l = every isByte l ≡ true
+
+abbrev pub OfBytes : Field → Type 0
+OfBytes (given bs) = Bytes bs
+OfBytes (alfid v w) = Any
 
 abbrev pub Fields : Field → Field → Type 0
-Fields a s = Iso.FieldLength (sent a) × Iso.FieldLength (sent s)
+Fields a s = OfBytes a × OfBytes s
 
--- Arguments in the ranges that their bytes and refusals 2 to 5 give them.
+-- Call 13 is not told whether it downloads or uploads: data to send is a download's, none an upload's.
+abbrev pub direction : Option (List ℕ) → Iso.Direction
+direction none = Iso.uploads
+direction (some d) = Iso.downloads
+
+-- A row for each call: the standard's service for the same arguments, by whether the sub-function's bit 7 is sent; the ranges that the
+-- arguments have as bytes and pairs of bytes; and the record that the standard wants in the request and document 01 does not.
+pub record Standard : Type 1 where
+  pub service : Bool → Iso.Service
+  pub ranges : Type 0
+  pub records : Type 0
+
+abbrev pub like : (Bool → Iso.Service) → Type 0 → Type 0 → Standard
+like x ranges records = record { service = x; ranges = ranges; records = records }
+
+-- (Call 0 is any service, and the layouts do not speak of it.)
+abbrev pub standard : Call → Standard
+standard (request sid sub d) = like (λ q. Iso.RequestTransferExit (orNone d)) ⊥ ⊥
+standard (session sub) = like (λ q. Iso.DiagnosticSessionControl q (sub % 128)) (U8 sub) Any
+standard (reset sub) = like (λ q. Iso.ECUReset q (sub % 128)) (U8 sub) Any
+standard (security sub d) =
+    like (λ q. cond (eqb (sub % 2) 1) (Iso.RequestSeed q (sub % 128) (orNone d)) (Iso.SendKey q (sub % 128) (orNone d))) (U8 sub × Bytes (orNone d))
+    (sub % 2 ≢ 1 → d ≢ some [])
+standard testerPresent = like Iso.TesterPresent Any Any
+standard (readMemory a s) = like (λ q. Iso.ReadMemoryByAddress (sent a) (sent s)) (Fields a s) Any
+standard (writeMemory a s d) = like (λ q. Iso.WriteMemoryByAddress (sent a) (sent s) d) (Fields a s × Bytes d) (length d ≡ value (sent s))
+standard (readIdentifier id) = like (λ q. Iso.ReadDataByIdentifier id) (U16 id) Any
+standard (writeIdentifier id d) = like (λ q. Iso.WriteDataByIdentifier id d) (U16 id × Bytes d) (1 ≤ length d)
+standard (faultCount mask) = like (λ q. Iso.ReportNumberOfDTCByStatusMask q mask) (U8 mask) Any
+standard (routine sub id d) = like (λ q. Iso.RoutineControl q (sub % 128) id (orNone d)) (U8 sub × U16 id × Bytes (orNone d)) Any
+standard (download c e a s) = like (λ q. Iso.RequestDownload c e (sent a) (sent s)) (Fields a s) Any
+standard (upload c e a s) = like (λ q. Iso.RequestUpload c e (sent a) (sent s)) (Fields a s) Any
+standard (transfer counter d) = like (λ q. Iso.TransferData (direction d) counter (orNone d)) (U8 counter × Bytes (orNone d)) Any
+standard (transferExit d) = like (λ q. Iso.RequestTransferExit (orNone d)) (Bytes (orNone d)) Any
+
+abbrev pub service : Setting → Call → Iso.Service
+service w c = standard c .service (suppressing w c)
+
 abbrev pub InRange : Call → Type 0
-InRange (request sid sub d) = ⊥
-InRange (session sub) = sub < 256
-InRange (reset sub) = sub < 256
-InRange (security sub d) = sub < 256
-InRange testerPresent = Unit {0}
-InRange (readMemory a s) = Fields a s
-InRange (writeMemory a s d) = Fields a s
-InRange (readIdentifier id) = id < 65536
-InRange (writeIdentifier id d) = id < 65536
-InRange (faultCount mask) = Unit {0}
-InRange (routine sub id d) = (sub < 256) × (id < 65536)
-InRange (download c e a s) = Fields a s × (c ≤ 15) × (e ≤ 15)
-InRange (upload c e a s) = Fields a s × (c ≤ 15) × (e ≤ 15)
-InRange (transfer counter d) = Unit {0}
-InRange (transferExit d) = Unit {0}
+InRange c = standard c .ranges
 
--- The records that the standard wants in a request and document 01 does not: a key, a record to write, as many bytes as the size says.
 abbrev pub Recorded : Call → Type 0
-Recorded (request sid sub d) = ⊥
-Recorded (session sub) = Unit {0}
-Recorded (reset sub) = Unit {0}
-Recorded (security sub d) = sub % 2 ≢ 1 → 1 ≤ length (orNone d)
-Recorded testerPresent = Unit {0}
-Recorded (readMemory a s) = Unit {0}
-Recorded (writeMemory a s d) = length d ≡ value (sent s)
-Recorded (readIdentifier id) = Unit {0}
-Recorded (writeIdentifier id d) = 1 ≤ length d
-Recorded (faultCount mask) = Unit {0}
-Recorded (routine sub id d) = Unit {0}
-Recorded (download c e a s) = Unit {0}
-Recorded (upload c e a s) = Unit {0}
-Recorded (transfer counter d) = Unit {0}
-Recorded (transferExit d) = Unit {0}
+Recorded c = standard c .records
 
 -- What document 01's strict positive wants and the standard does not: of calls 11 and 12 "a value of 3 up to 2^64 − 1".
 abbrev pub Beyond : Call → List ℕ → Type 0
@@ -79,7 +90,18 @@ Beyond c d = loads c ≡ true → (3 ≤ value d) × (value d < 2 ^ 64)
 abbrev pub IsRow : Call → List ℕ → List ℕ → Type 0
 IsRow c r d = (head : List ℕ) × Positive c head d × (r ≡ head ++ d)
 
+-- What a call leaves at the front of the request buffer, unless it is refused, is the standard's request; the rest keeps its bytes.
+-- The replies are of bytes (a call with others is refused). The notices and the negative closing are the standard's negative responses,
+-- to the request as sent: those with responsePending, which is all that a conversation may hold before its closing, and those with another code.
 pub record Layouts : Type 0 where
-  pub requests : (w : Setting) (c : Call) → InRange c → Recorded c → Iso.Request (service w c) (requestOf (w .quiet) c)
-  pub positives : (w : Setting) (c : Call) → InRange c → (r d : List ℕ) → IsRow c r d ↔ (Iso.Response (service w c) r d × Beyond c d)
+  pub requests : (strict : Bool) (w : Setting) (c : Call) (l : Lent) → InRange c → Recorded c → ¬ Refused (call strict w c l .answer .outcome) →
+      let n = length (requestOf (w .quiet) c) in
+      let left = call strict w c l .buffer in
+      Iso.Request (service w c) (take n left) × (drop n left ≡ drop n (l .buffer))
+  pub positives : (w : Setting) (c : Call) → InRange c → (r d : List ℕ) → Iso.Message r → IsRow c r d ↔ (Iso.Response (service w c) r d × Beyond c d)
   pub positive-sid : (sid : ℕ) → sid < 256 → positiveSid sid ≡ Iso.responseSid sid
+  pub negatives : (w : Setting) (c : Call) (notices : List ℕ) (p : Part) (code : ℕ) → Iso.Message (p .bytes)
+      → Closing w c notices p (negative code) ↔ (Iso.NegativeResponse (requestOf (w .quiet) c) code (p .bytes) × (code ≢ Iso.responsePending))
+  pub notices : (w : Setting) (c : Call) (t : ℕ) (p : Part) (es : List Event) (times : List ℕ) → Iso.Message (p .bytes)
+      → Waiting (sidOf c) (reply t p ∷ es) times
+      ↔ ((later : List ℕ) × (times ≡ t ∷ later) × Iso.NegativeResponse (requestOf (w .quiet) c) Iso.responsePending (p .bytes) × Waiting (sidOf c) es later)

@@ -1,6 +1,6 @@
 -- Document 01 as definitions, a file for each of its sections, in its order; beside them ISO 14229-1 and the theorems' statements.
 pub mod Bytes
-pub mod Checks
+pub mod InOrder
 pub mod Answers
 pub mod Calls
 pub mod Settings
@@ -14,6 +14,7 @@ pub mod Conversations
 pub mod Lines
 pub mod Logs
 pub mod Blocks
+pub mod Demand1
 pub mod Demand3
 pub mod Examples
 pub mod Iso
@@ -21,3 +22,10 @@ pub mod Layouts
 pub mod Unique
 pub mod Counts
 pub mod Readings
+pub mod Pins
+pub mod AnswerRows
+pub mod RequestRows
+pub mod RefusalRows
+pub mod LogRows
+pub mod BlockRows
+pub mod Writing

@@ -5,14 +5,19 @@ use mathlib.Core.List.{List, [], _∷_}
 use mathlib.Core.Option.{Option, none, some}
 use lib.Dec.{leb, eqb}
 use lib.ListN.{length, getD, take, drop, replicate}
+use Rattle.rules.specs.Answers.{Answer}
 use Rattle.rules.specs.Bytes.{u16At, u32At, every}
 use Rattle.rules.specs.Calls.{Call, request, session, reset, security, testerPresent, readMemory, writeMemory, readIdentifier, writeIdentifier, faultCount, routine, download, upload, transfer, transferExit, Field, given, orNone}
 use Rattle.rules.specs.Client.{call}
-use Rattle.rules.specs.Events.{Entry, entries}
+use Rattle.rules.specs.Events.{Entry, eventSize, entries}
 use Rattle.rules.specs.Lines.{line, badlog}
 use Rattle.rules.specs.Settings.{Setting, Lent}
 
--- "Header, 36 bytes", big-endian. Of an area: how many (bytes or events), and where it begins.
+-- "Header, 36 bytes", big-endian.
+abbrev pub headerSize : ℕ
+headerSize = 36
+
+-- Of an area: how many (bytes or events), and where it begins.
 pub record Header : Type 0 where
   pub version : ℕ
   pub call : ℕ
@@ -31,7 +36,7 @@ pub record Header : Type 0 where
   pub total : ℕ
   pub p2 : ℕ
   pub star : ℕ
-  pub limit : ℕ
+  pub overall : ℕ
 
 abbrev pub headerOf : List ℕ → Header
 headerOf l = record {
@@ -52,7 +57,7 @@ headerOf l = record {
   total = u16At l 22;
   p2 = u32At l 24;
   star = u32At l 28;
-  limit = u32At l 32;
+  overall = u32At l 32;
 }
 
 -- "flags u8 (1 strict, 2 server timing, 4 suppressed client, 8 T present, 16 sub-function present, call 0 only, 32 data present)":
@@ -60,7 +65,7 @@ headerOf l = record {
 abbrev pub flag : ℕ → Header → ℕ
 flag weight h = h .flags / weight % 2
 
--- What a call uses: the largest value and sub that it takes (0: unused), the largest lengths, whether flag 16 is its own, and whether data may and must be present.
+-- What a call uses of a header: the largest value, sub and lengths (0: unused), whether flag 16 is its own, and whether data may and must be present.
 pub record Uses : Type 0 where
   pub value : ℕ
   pub sub : ℕ
@@ -72,27 +77,52 @@ pub record Uses : Type 0 where
 abbrev pub uses : ℕ → ℕ → ℕ → ℕ → ℕ → ℕ → Uses
 uses v s l n may must = record { value = v; sub = s; lengths = l; named = n; may = may; must = must }
 
--- A row for each call, 0 to 14.
-abbrev pub table : List Uses
-table =
-    uses 255 0 0 1 1 0 ∷
-    uses 0 255 0 0 0 0 ∷
-    uses 0 255 0 0 0 0 ∷
-    uses 0 255 0 0 1 0 ∷
-    uses 0 0 0 0 0 0 ∷
-    uses 0 0 255 0 0 0 ∷
-    uses 0 0 255 0 1 1 ∷
-    uses 65535 0 0 0 0 0 ∷
-    uses 65535 0 0 0 1 1 ∷
-    uses 255 0 0 0 0 0 ∷
-    uses 65535 255 0 0 1 0 ∷
-    uses 65535 0 255 0 0 0 ∷
-    uses 65535 0 255 0 0 0 ∷
-    uses 255 0 0 0 1 0 ∷
-    uses 0 0 0 0 1 0 ∷ []
+-- The same in words: no field, and a field more.
+abbrev pub nothing : Uses
+nothing = uses 0 0 0 0 0 0
+
+abbrev pub aByte : Uses → Uses
+aByte u = uses 255 (u .sub) (u .lengths) (u .named) (u .may) (u .must)
+
+abbrev pub aPair : Uses → Uses
+aPair u = uses 65535 (u .sub) (u .lengths) (u .named) (u .may) (u .must)
+
+abbrev pub aSub : Uses → Uses
+aSub u = uses (u .value) 255 (u .lengths) (u .named) (u .may) (u .must)
+
+abbrev pub bothLengths : Uses → Uses
+bothLengths u = uses (u .value) (u .sub) 255 (u .named) (u .may) (u .must)
+
+abbrev pub flag16 : Uses → Uses
+flag16 u = uses (u .value) (u .sub) (u .lengths) 1 (u .may) (u .must)
+
+abbrev pub mayHaveData : Uses → Uses
+mayHaveData u = uses (u .value) (u .sub) (u .lengths) (u .named) 1 (u .must)
+
+abbrev pub needsData : Uses → Uses
+needsData u = uses (u .value) (u .sub) (u .lengths) (u .named) 1 1
+
+-- "value u16 (SID, id, mask, counter, or compression × 256 + encryption)"; a row for each call, 0 to 14.
+abbrev pub usesByCall : List Uses
+usesByCall =
+    aByte (flag16 (mayHaveData nothing)) ∷
+    aSub nothing ∷
+    aSub nothing ∷
+    aSub (mayHaveData nothing) ∷
+    nothing ∷
+    bothLengths nothing ∷
+    bothLengths (needsData nothing) ∷
+    aPair nothing ∷
+    aPair (needsData nothing) ∷
+    aByte nothing ∷
+    aPair (aSub (mayHaveData nothing)) ∷
+    aPair (bothLengths nothing) ∷
+    aPair (bothLengths nothing) ∷
+    aByte (mayHaveData nothing) ∷
+    mayHaveData nothing ∷ []
 
 abbrev pub usesOf : ℕ → Uses
-usesOf c = getD table c (uses 0 0 0 0 0 0)
+usesOf c = getD usesByCall c nothing
 
 abbrev pub all : List Bool → Bool
 all [] = true
@@ -110,7 +140,7 @@ fieldsOk h u =
     leb (h .addressLength) (u .lengths) ∷
     leb (h .sizeLength) (u .lengths) ∷
     eqb (h .unused) 0 ∷
-    leb (h .limit) (flag 8 h * 4294967295) ∷
+    leb (h .overall) (flag 8 h * 4294967295) ∷
     leb (h .addressLength + h .sizeLength) (h .arguments) ∷
     leb (h .arguments) (h .addressLength + h .sizeLength + flag 32 h * 65535) ∷ [])
 
@@ -118,9 +148,9 @@ fieldsOk h u =
 abbrev pub areasOk : Header → ℕ → Bool
 areasOk h n =
     all
-    (eqb (h .argumentsAt) 36 ∷
-    eqb (h .eventsAt) (36 + h .arguments) ∷
-    eqb (h .repliesAt) (h .eventsAt + h .events * 10) ∷
+    (eqb (h .argumentsAt) headerSize ∷
+    eqb (h .eventsAt) (headerSize + h .arguments) ∷
+    eqb (h .repliesAt) (h .eventsAt + h .events * eventSize) ∷
     eqb (h .total) (h .repliesAt + h .replies) ∷
     eqb (h .total) n ∷ [])
 
@@ -134,26 +164,35 @@ eventOk e =
 abbrev pub area : List ℕ → ℕ → ℕ → List ℕ
 area l i n = take n (drop i l)
 
-abbrev pub eventBytes : Header → List ℕ → List ℕ
-eventBytes h l = area l (h .eventsAt) (h .events * 10)
+-- The areas, in their order.
+abbrev pub argumentBytes : Header → List ℕ → List ℕ
+argumentBytes h l = area l (h .argumentsAt) (h .arguments)
 
-unfoldable pub layoutOk : List ℕ → Bool
-layoutOk l =
-    let h = headerOf l in
+abbrev pub eventBytes : Header → List ℕ → List ℕ
+eventBytes h l = area l (h .eventsAt) (h .events * eventSize)
+
+abbrev pub replyBytes : Header → List ℕ → List ℕ
+replyBytes h l = area l (h .repliesAt) (h .replies)
+
+-- Every test of the layout but the fields'.
+abbrev pub laidOut : Header → List ℕ → Bool
+laidOut h l =
     all
-    (leb 36 (length l) ∷
+    (leb headerSize (length l) ∷
     eqb (h .version) 1 ∷
     leb (h .call) 14 ∷
-    fieldsOk h (usesOf (h .call)) ∷
     areasOk h (length l) ∷
     every eventOk (entries (eventBytes h l)) ∷ [])
 
+unfoldable pub layoutOk : List ℕ → Bool
+layoutOk l = let h = headerOf l in laidOut h l && fieldsOk h (usesOf (h .call))
+
 -- "Arguments are address, size, data."
 abbrev pub addressOf : Header → List ℕ → Field
-addressOf h l = given (area l 36 (h .addressLength))
+addressOf h l = given (area l headerSize (h .addressLength))
 
 abbrev pub sizeOf : Header → List ℕ → Field
-sizeOf h l = given (area l (36 + h .addressLength) (h .sizeLength))
+sizeOf h l = given (area l (headerSize + h .addressLength) (h .sizeLength))
 
 abbrev pub some? : {A : Type 0} → Bool → A → Option A
 some? true x = some x
@@ -161,11 +200,11 @@ some? false x = none
 
 abbrev pub dataOf : Header → List ℕ → Option (List ℕ)
 dataOf h l =
-    some? (eqb (flag 32 h) 1) (area l (36 + h .addressLength + h .sizeLength) (h .arguments - (h .addressLength + h .sizeLength)))
+    some? (eqb (flag 32 h) 1) (area l (headerSize + h .addressLength + h .sizeLength) (h .arguments - (h .addressLength + h .sizeLength)))
 
--- "value u16 (SID, id, mask, counter, or compression × 256 + encryption)"
-abbrev pub calls : ℕ → ℕ → Option ℕ → Field → Field → Option (List ℕ) → List Call
-calls v sub named a s d =
+-- The call of each number, 0 to 14.
+abbrev pub choices : ℕ → ℕ → Option ℕ → Field → Field → Option (List ℕ) → List Call
+choices v sub named a s d =
     request v named d ∷
     session sub ∷
     reset sub ∷
@@ -184,12 +223,12 @@ calls v sub named a s d =
 
 abbrev pub callOf : Header → List ℕ → Call
 callOf h l =
-    getD (calls (h .value) (h .sub) (some? (eqb (flag 16 h) 1) (h .sub)) (addressOf h l) (sizeOf h l) (dataOf h l)) (h .call) testerPresent
+    getD (choices (h .value) (h .sub) (some? (eqb (flag 16 h) 1) (h .sub)) (addressOf h l) (sizeOf h l) (dataOf h l)) (h .call) testerPresent
 
 abbrev pub settingOf : Header → Setting
 settingOf h = record {
   timing = record { p2 = h .p2; star = h .star };
-  limit = some? (eqb (flag 8 h) 1) (h .limit);
+  overall = some? (eqb (flag 8 h) 1) (h .overall);
   serverTiming = eqb (flag 2 h) 1;
   quiet = eqb (flag 4 h) 1;
 }
@@ -199,12 +238,13 @@ abbrev pub lentOf : Header → List ℕ → Lent
 lentOf h l = record {
   buffer = replicate 4095 0;
   events = eventBytes h l;
-  replies = area l (h .repliesAt) (h .replies);
+  replies = replyBytes h l;
 }
+
+-- The answer of the call that a log asks.
+unfoldable pub answerOf : List ℕ → Answer
+answerOf l = let h = headerOf l in call (eqb (flag 1 h) 1) (settingOf h) (callOf h l) (lentOf h l) .answer
 
 -- The line that `udslog` prints.
 unfoldable pub lineOf : List ℕ → List ℕ
-lineOf l =
-    let h = headerOf l in
-    let said = line (call (eqb (flag 1 h) 1) (settingOf h) (callOf h l) (lentOf h l) .answer) in
-    cond (layoutOk l) said badlog
+lineOf l = cond (layoutOk l) (line (answerOf l)) badlog

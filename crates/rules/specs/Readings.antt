@@ -9,17 +9,17 @@ use lib.ListN.{replicate}
 use Rattle.rules.specs.Answers.{part, nowhere, Fault, deviation, deviation8, badLength, overflow, positive, suppressed, negative, timeout, disconnected, transport, fault, refused, Answer, answer, refusal}
 use Rattle.rules.specs.Calls.{Call, session, reset, security, readMemory, writeMemory, readIdentifier, writeIdentifier, faultCount, routine, download, transfer, given, alfid}
 use Rattle.rules.specs.Client.{call}
-use Rattle.rules.specs.Examples.{lent, setting, usual, gives, told, Example, row, one, load}
+use Rattle.rules.specs.Examples.{says, lent, setting, usual, gives, Example, whole, row, runs, tells, one, load}
 use Rattle.rules.specs.Lines.{ascii, line}
 use Rattle.rules.specs.Settings.{Setting}
 
 -- One reply at time 10 that is a fault.
 abbrev pub faulty : Bool → Call → List ℕ → Fault → Example
-faulty m c r f = one m c r (gives (fault f) 10 1 0 0)
+faulty strict c r f = one strict c r (gives (fault f) 10 1 0 0)
 
 -- A call that is refused.
 abbrev pub turned : Call → ℕ → Example
-turned c n = row true usual c [] (gives (refused n) 0 0 0 0)
+turned c n = whole true usual c [] (gives (refused n) 0 0 0 0) (50, 5000) []
 
 abbrev pub written : Call
 written = writeMemory (given (0x20 ∷ 0x00 ∷ [])) (given (0x01 ∷ [])) (0xaa ∷ [])
@@ -57,15 +57,15 @@ meetings =
     one true load (0x74 ∷ 0x90 ∷ replicate 8 0 ++ (0x03 ∷ [])) (gives (positive (part 2 (replicate 8 0 ++ (0x03 ∷ [])))) 10 1 0 3) ∷
     one false load (0x74 ∷ 0x00 ∷ 0x05 ∷ []) (gives (positive (part 2 [])) 10 1 0 0) ∷
     -- A deviation does not wait until P2; a positive behind a notice does, under suppression.
-    row true (setting none true) (session 0x01) ((5, 0x7f ∷ 0x10 ∷ 0x78 ∷ []) ∷ (10, 0x50 ∷ 0x01 ∷ 0x00 ∷ 0x32 ∷ 0x01 ∷ 0xf4 ∷ []) ∷ [])
+    row true (setting none true) (session 0x01) (says 5 (0x7f ∷ 0x10 ∷ 0x78 ∷ []) ∷ says 10 (0x50 ∷ 0x01 ∷ 0x00 ∷ 0x32 ∷ 0x01 ∷ 0xf4 ∷ []) ∷ [])
     (gives (positive (part 5 (0x00 ∷ 0x32 ∷ 0x01 ∷ 0xf4 ∷ []))) 50 2 1 0) ∷
     -- A check after the positive that fails keeps the waited time.
-    row true (setting none true) (session 0x01) ((5, 0x7f ∷ 0x10 ∷ 0x78 ∷ []) ∷ (10, 0x50 ∷ 0x01 ∷ []) ∷ [])
+    row true (setting none true) (session 0x01) (says 5 (0x7f ∷ 0x10 ∷ 0x78 ∷ []) ∷ says 10 (0x50 ∷ 0x01 ∷ []) ∷ [])
     (gives (fault (deviation8 6 (some 6))) 50 2 1 0) ∷
     -- Silence behind a notice is a timeout, suppressed or not.
-    row true (setting none true) (session 0x01) ((5, 0x7f ∷ 0x10 ∷ 0x78 ∷ []) ∷ []) (gives timeout 5005 1 1 0) ∷
+    row true (setting none true) (session 0x01) (says 5 (0x7f ∷ 0x10 ∷ 0x78 ∷ []) ∷ []) (gives timeout 5005 1 1 0) ∷
     -- An event behind the settling one is never counted, nor one past T.
-    row false (setting (some 30) false) (reset 0x81) ((10, 0x51 ∷ 0x01 ∷ []) ∷ (20, 0x51 ∷ 0x01 ∷ []) ∷ []) (gives timeout 30 1 0 0) ∷
+    row false (setting (some 30) false) (reset 0x81) (says 10 (0x51 ∷ 0x01 ∷ []) ∷ says 20 (0x51 ∷ 0x01 ∷ []) ∷ []) (gives timeout 30 1 0 0) ∷
     -- In lenient call 9 hands out the first four bytes, call 1 its record only if it is of four.
     one false (faultCount 0xff) (0x59 ∷ 0x01 ∷ 0x01 ∷ 0x02 ∷ 0x03 ∷ 0x04 ∷ 0x05 ∷ []) (gives (positive (part 2 (0x01 ∷ 0x02 ∷ 0x03 ∷ 0x04 ∷ []))) 10 1 0 0) ∷
     one false (session 0x01) (0x50 ∷ 0x01 ∷ 0x00 ∷ []) (gives (positive (part 2 [])) 10 1 0 0) ∷
@@ -83,7 +83,7 @@ meetings =
 
 -- The session's timing afterwards.
 abbrev pub adopts : Bool → Bool → Call → List ℕ → ℕ × ℕ → Bool × Setting × Call × List ℕ × (ℕ × ℕ)
-adopts m server c r t = (m, record { timing = usual .timing; limit = none; serverTiming = server; quiet = false }, c, r, t)
+adopts strict server c r t = (strict, record { timing = usual .timing; overall = none; serverTiming = server; quiet = false }, c, r, t)
 
 abbrev pub timings : List (Bool × Setting × Call × List ℕ × (ℕ × ℕ))
 timings =
@@ -98,6 +98,7 @@ abbrev pub printed : List (Answer × String)
 printed =
     (answer (positive (part 2 (0x0f ∷ 0xfa ∷ []))) 8589934590 512 511 nowhere, "positive 8589934590 512 511 0ffa\n") ∷
     (answer (positive (part 2 [])) 0 1 0 nowhere, "positive 0 1 0 -\n") ∷
+    (answer timeout 18446744073709551615 10 9 nowhere, "timeout 18446744073709551615 10 9 -\n") ∷
     (answer suppressed 50 0 0 nowhere, "suppressed 50 0 0 -\n") ∷
     (answer (negative 0x31) 10 1 0 (part 0 (0x7f ∷ 0x22 ∷ 0x31 ∷ [])), "negative 10 1 0 31\n") ∷
     (answer timeout 900 2 1 nowhere, "timeout 900 2 1 -\n") ∷
@@ -107,10 +108,16 @@ printed =
     (answer (fault (deviation8 1 none)) 1 1 0 (part 0 []), "deviation 1 1 0 08\n") ∷
     (answer (fault badLength) 2 3 0 (part 0 (0x63 ∷ [])), "length 2 3 0 -\n") ∷
     (answer (fault overflow) 10 1 0 (part 0 (0x74 ∷ 0x90 ∷ [])), "overflow 10 1 0 7490\n") ∷
+    -- Whatever reply stands beside: `-` for these, and only the number for those that have one.
+    (answer suppressed 50 0 0 (part 0 (0x62 ∷ [])), "suppressed 50 0 0 -\n") ∷
+    (answer timeout 50 0 0 (part 0 (0x62 ∷ [])), "timeout 50 0 0 -\n") ∷
+    (answer disconnected 50 1 0 (part 0 (0x62 ∷ [])), "disconnected 50 1 0 -\n") ∷
+    (answer (transport 0xfffe) 50 1 0 (part 0 (0x62 ∷ [])), "transport 50 1 0 fffe\n") ∷
+    (answer (refused 3) 0 0 0 (part 0 (0x62 ∷ [])), "refused 0 0 0 03\n") ∷
     (refusal 10, "refused 0 0 0 0a\n") ∷ []
 
 abbrev pub Readings : Type 0
 Readings =
-    (map (λ e. told (call (e .strict) (e .setting) (e .call) (lent (e .said)))) meetings ≡ map (λ e. e .gives) meetings) ×
-    (map (λ p. let t = call (p .0) (p .1) (p .2) (lent ((10, p .3) ∷ [])) .timing in (t .p2, t .star)) timings ≡ map (λ p. p .4) timings) ×
+    (map runs meetings ≡ map tells meetings) ×
+    (map (λ p. let t = call (p .0) (p .1) (p .2) (lent (says 10 (p .3) ∷ [])) .timing in (t .p2, t .star)) timings ≡ map (λ p. p .4) timings) ×
     (map (λ p. line (p .0)) printed ≡ map (λ p. ascii (p .1)) printed)

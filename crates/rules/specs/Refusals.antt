@@ -6,7 +6,7 @@ use mathlib.Core.Option.{Option, none, some}
 use lib.Dec.{leb, ltb, eqb}
 use lib.ListN.{length}
 use Rattle.rules.specs.Calls.{Call, request, session, reset, security, testerPresent, readMemory, writeMemory, readIdentifier, writeIdentifier, faultCount, routine, download, upload, transfer, transferExit, Field, given, alfid, sent}
-use Rattle.rules.specs.Checks.{Check, unless}
+use Rattle.rules.specs.InOrder.{Check, unless}
 use Rattle.rules.specs.Events.{withinLimits}
 
 abbrev pub between : ℕ → ℕ → ℕ → Bool

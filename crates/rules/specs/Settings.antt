@@ -13,7 +13,7 @@ pub record Timing : Type 0 where
 -- The session's timing, the overall timeout T, server timing, and whether the client is the suppressed one.
 pub record Setting : Type 0 where
   pub timing : Timing
-  pub limit : Option ℕ
+  pub overall : Option ℕ
   pub serverTiming : Bool
   pub quiet : Bool
 

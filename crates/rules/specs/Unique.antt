@@ -7,22 +7,20 @@ use lib.ListN.{length}
 use Rattle.rules.specs.After.{numberOf}
 use Rattle.rules.specs.Answers.{Answer, answer, part, nowhere, positive, suppressed, negative}
 use Rattle.rules.specs.Calls.{Call, session, reset, security, testerPresent, readMemory, writeMemory, readIdentifier, writeIdentifier, faultCount, routine, download, upload, transfer, transferExit, given, sidOf, numbered}
-use Rattle.rules.specs.Client.{eventsIn, call}
+use Rattle.rules.specs.Client.{call}
 use Rattle.rules.specs.Conversations.{Closed, Silent, Conversation}
-use Rattle.rules.specs.Demand3.{Named, Refused}
 use Rattle.rules.specs.Events.{Event, reply}
-use Rattle.rules.specs.Examples.{lent, usual, gives, told}
+use Rattle.rules.specs.Examples.{says, lent, usual, gives, told}
 use Rattle.rules.specs.Positives.{Positive}
-use Rattle.rules.specs.Settings.{Setting, Lent, suppressing}
+use Rattle.rules.specs.Settings.{Setting, suppressing}
 use mathlib.Core.Option.{none, some}
 
 -- Two closed conversations over the same events stand at the same places; none is also silent; one answer fits.
 pub record Unique : Type 0 where
-  pub places : (w : Setting) (c : Call) (es : List Event) (x y : Answer) → Named c → (f : Closed w c es x) (g : Closed w c es y)
+  pub places : (w : Setting) (c : Call) (es : List Event) (x y : Answer) (f : Closed w c es x) (g : Closed w c es y)
       → (f .before ≡ g .before) × (f .times ≡ g .times) × (f .at ≡ g .at) × (f .rest ≡ g .rest)
   pub apart : (w : Setting) (c : Call) (es : List Event) (x y : Answer) → Closed w c es x → Silent w c es y → ⊥
-  pub answers : (w : Setting) (c : Call) (l : Lent) (x y : Answer) → Named c → ¬ Refused (call true w c l .answer .outcome)
-      → Conversation w c (eventsIn l) x → Conversation w c (eventsIn l) y → x ≡ y
+  pub answers : (w : Setting) (c : Call) (es : List Event) (x y : Answer) → Conversation w c es x → Conversation w c es y → x ≡ y
 
 -- A positive for each of the fourteen services.
 pub record Sample : Type 0 where
@@ -61,5 +59,5 @@ pub record Witnessed : Type 0 where
       Closed w c (reply 0 (part 0 (0x7f ∷ sidOf c ∷ 0x78 ∷ [])) ∷ reply 0 p ∷ [])
       (answer (positive (part (p .at + length head) d)) (cond (suppressing w c) (max 0 (w .timing .p2)) 0) 2 1 p)
   pub services : map (λ s. numbered (s .call)) samples ≡ 1 ∷ 2 ∷ 3 ∷ 4 ∷ 5 ∷ 6 ∷ 7 ∷ 8 ∷ 9 ∷ 10 ∷ 11 ∷ 12 ∷ 13 ∷ 14 ∷ []
-  pub answered : map (λ s. told (call true usual (s .call) (lent ((10, s .head ++ s .payload) ∷ [])))) samples
+  pub answered : map (λ s. told (call true usual (s .call) (lent (says 10 (s .head ++ s .payload) ∷ [])))) samples
       ≡ map (λ s. gives (positive (part (length (s .head)) (s .payload))) 10 1 0 (numberOf (s .call) (positive (part 0 (s .payload))))) samples

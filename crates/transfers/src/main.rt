@@ -1,10 +1,15 @@
 // A worked path from a download to its transfers: the block length that call 11 returned, the blocks cut, each sent by call 13 with its counter and answered.
 use blocks::Cut;
 use calls::Answered;
+use calls::Ask;
+use exchange::types::RequestTimeout;
+use exchange::types::Timing;
 use libc::STDOUT_FILENO;
+use log_line::answers::put_answer;
 use logs::text::LONGEST;
 use logs::text::Written;
-use report::outcome::report;
+use requests::Call;
+use requests::Data;
 use uds::UDSClient;
 
 fn say(text: &[u8]) {
@@ -15,7 +20,7 @@ fn say(text: &[u8]) {
 fn show(answered: Answered, replies: &[u8]) {
     let mut line = [0u8; LONGEST];
     let answer = answered.answer;
-    match report(&mut line, answer, replies) {
+    match put_answer(&mut line, answer, replies) {
         Written::Line(n) => say(wire::part(&line, 0, n)),
         Written::NoRoom => {}
     }
@@ -31,7 +36,7 @@ fn transfer(client: UDSClient, data: &[u8], length: u64, k: u64) {
             let replies = [0x76, counter];
             let answered = client.transfer_data(
                 counter,
-                true,
+                Data::Present,
                 block,
                 &mut request,
                 &events,
@@ -52,7 +57,36 @@ fn transfer(client: UDSClient, data: &[u8], length: u64, k: u64) {
     }
 }
 
+// Who answers: a record of the controller's, handed out as a part of the reply bytes.
+fn identify() {
+    let session = Timing { p2: 50, star: 5000 };
+    let ask = Ask {
+        call: Call::ReadDataByIdentifier(0xf18a),
+        quiet: false,
+        strict: true,
+        server: false,
+        overall: RequestTimeout::Never,
+    };
+    let mut request = [0u8; 64];
+    let events = [0, 0, 0, 8, 0, 0, 0, 0, 0, 8];
+    let replies = [0x62, 0xf1, 0x8a, 0x48, 0x6f, 0x69, 0x73, 0x74];
+    let record = calls::data_in_session(
+        session,
+        ask,
+        &mut request,
+        b"",
+        b"",
+        b"",
+        &events,
+        &replies,
+    );
+    say(b"controller: ");
+    say(record);
+    say(b"\n");
+}
+
 fn main() {
+    identify();
     let data = b"Bintrochis";
     let client = UDSClient::new();
     let mut request = [0u8; 64];

@@ -1,1 +1,2 @@
--- Proofs.
+-- What every call of a client promises.
+pub mod Promises

@@ -2,27 +2,30 @@
 use Prim.Native.Nat.{ℕ}
 use mathlib.Core.Bool.{Bool}
 use mathlib.Core.List.{List}
-use Rattle.rules.specs.Calls.{Call}
-use Rattle.rules.specs.Settings.{Setting}
-use Rattle.exchange.specs.Meaning.{limitOf}
-use Rattle.calls.specs.Meaning.{timingOf, lentOf, Called}
-use Rattle.calls.specs.declared.Session.{Session}
+use Rattle.rules.specs.Calls as rules
+use Rattle.exchange.specs.declared.types.Timing.{Timing}
+use Rattle.requests.specs.declared.Call.{Call}
+use Rattle.requests.specs.declared.Call.the-variants as call
+use Rattle.calls.specs.Meaning.{settingOf, lentOf, Called}
+use Rattle.calls.specs.declared.Ask.{Ask}
 use Rattle.calls.specs.declared.Answered.{Answered}
 use Rattle.uds.specs.declared.config.UDSConfig.{UDSConfig}
 use Rattle.uds.specs.declared.UDSClient.{UDSClient}
 
 -- The session as it begins: the configured timing.
-abbrev pub sessionOf : UDSConfig → Session
+abbrev pub sessionOf : UDSConfig → Timing
 sessionOf c = record { p2 = c .«p2_timeout»; star = c .«p2_star_timeout» }
 
-abbrev pub settingOf : UDSClient → Bool → Setting
-settingOf u quiet = record {
-  timing = timingOf (u .session);
-  limit = limitOf (u .config .«request_timeout»);
-  serverTiming = u .config .«use_server_timing»;
+abbrev pub askOf : UDSClient → Bool → Call → Ask
+askOf u quiet k = record {
+  call = k;
   quiet = quiet;
+  strict = u .config .strict;
+  server = u .config .«use_server_timing»;
+  overall = u .config .«request_timeout»;
 }
 
 -- The client makes this call over what is lent, and is answered so.
-abbrev pub Asks : UDSClient → Bool → Call → List ℕ → List ℕ → List ℕ → Answered → List ℕ → Type 0
-Asks u quiet c before events replies r after = Called (u .config .strict) (settingOf u quiet) c (lentOf before events replies) r after
+abbrev pub Asks : UDSClient → Bool → rules.Call → List ℕ → List ℕ → List ℕ → Answered → List ℕ → Type 0
+Asks u quiet c before events replies r after =
+    Called (u .config .strict) (settingOf (askOf u quiet call.TesterPresent) (u .session)) c (lentOf before events replies) r after

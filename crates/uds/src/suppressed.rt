@@ -2,7 +2,8 @@
 use crate::UDSClient;
 use calls::Answered;
 use exchange::types::SubFunction;
-use requests::calls::Call;
+use requests::Call;
+use requests::Data;
 ghost use mathlib.Core.Bool.{Bool};
 ghost use Rattle.rules.specs.Calls as rules;
 ghost use Rattle.rules.specs.Calls.{session, reset, security, testerPresent, faultCount, routine};
@@ -21,21 +22,18 @@ impl SuppressedUDSClient {
         self,
         sid: u8,
         sub_function: SubFunction,
-        present: bool,
+        given: Data,
         data: &[u8],
         request: &mut [u8],
         events: &[u8],
         replies: &[u8],
     ) -> Answered
-        ensures { λ r. ⌜ Asks (self .client) Bool.true (rules.request sid (subOf «sub_function») (dataOf present (now («data» .entry)))) (now (request .entry)) (now (events .entry)) (now (replies .entry)) r (now (request .exit)) ⌝ }
+        ensures { λ r. ⌜ Asks (self .client) Bool.true (rules.request sid (subOf «sub_function») (dataOf given (now («data» .entry)))) (now (request .entry)) (now (events .entry)) (now (replies .entry)) r (now (request .exit)) ⌝ }
     {
         let client = self.client;
-        client.request_exchange(
+        client.call(
             true,
-            Call::Request(sid, sub_function),
-            b"",
-            b"",
-            present,
+            Call::Request(sid, sub_function, given),
             data,
             request,
             events,
@@ -54,12 +52,9 @@ impl SuppressedUDSClient {
         ensures { λ r. ⌜ Asks (self .client) Bool.true (session «session_type») (now (request .entry)) (now (events .entry)) (now (replies .entry)) r (now (request .exit)) ⌝ }
     {
         let client = self.client;
-        client.request_exchange(
+        client.call(
             true,
             Call::DiagnosticSessionControl(session_type),
-            b"",
-            b"",
-            false,
             b"",
             request,
             events,
@@ -78,12 +73,9 @@ impl SuppressedUDSClient {
         ensures { λ r. ⌜ Asks (self .client) Bool.true (reset «reset_type») (now (request .entry)) (now (events .entry)) (now (replies .entry)) r (now (request .exit)) ⌝ }
     {
         let client = self.client;
-        client.request_exchange(
+        client.call(
             true,
             Call::EcuReset(reset_type),
-            b"",
-            b"",
-            false,
             b"",
             request,
             events,
@@ -95,21 +87,18 @@ impl SuppressedUDSClient {
     pub fn security_access(
         self,
         access_type: u8,
-        present: bool,
+        given: Data,
         data: &[u8],
         request: &mut [u8],
         events: &[u8],
         replies: &[u8],
     ) -> Answered
-        ensures { λ r. ⌜ Asks (self .client) Bool.true (security «access_type» (dataOf present (now («data» .entry)))) (now (request .entry)) (now (events .entry)) (now (replies .entry)) r (now (request .exit)) ⌝ }
+        ensures { λ r. ⌜ Asks (self .client) Bool.true (security «access_type» (dataOf given (now («data» .entry)))) (now (request .entry)) (now (events .entry)) (now (replies .entry)) r (now (request .exit)) ⌝ }
     {
         let client = self.client;
-        client.request_exchange(
+        client.call(
             true,
-            Call::SecurityAccess(access_type),
-            b"",
-            b"",
-            present,
+            Call::SecurityAccess(access_type, given),
             data,
             request,
             events,
@@ -122,17 +111,7 @@ impl SuppressedUDSClient {
         ensures { λ r. ⌜ Asks (self .client) Bool.true (testerPresent) (now (request .entry)) (now (events .entry)) (now (replies .entry)) r (now (request .exit)) ⌝ }
     {
         let client = self.client;
-        client.request_exchange(
-            true,
-            Call::TesterPresent,
-            b"",
-            b"",
-            false,
-            b"",
-            request,
-            events,
-            replies,
-        )
+        client.call(true, Call::TesterPresent, b"", request, events, replies)
     }
 
     // 0x19, sub-function 0x01 - Report the number of DTCs matching `mask`.
@@ -146,12 +125,9 @@ impl SuppressedUDSClient {
         ensures { λ r. ⌜ Asks (self .client) Bool.true (faultCount mask) (now (request .entry)) (now (events .entry)) (now (replies .entry)) r (now (request .exit)) ⌝ }
     {
         let client = self.client;
-        client.request_exchange(
+        client.call(
             true,
             Call::ReadDTCInformation(mask),
-            b"",
-            b"",
-            false,
             b"",
             request,
             events,
@@ -164,21 +140,18 @@ impl SuppressedUDSClient {
         self,
         routine_control_type: u8,
         routine_identifier: u16,
-        present: bool,
+        given: Data,
         data: &[u8],
         request: &mut [u8],
         events: &[u8],
         replies: &[u8],
     ) -> Answered
-        ensures { λ r. ⌜ Asks (self .client) Bool.true (routine «routine_control_type» «routine_identifier» (dataOf present (now («data» .entry)))) (now (request .entry)) (now (events .entry)) (now (replies .entry)) r (now (request .exit)) ⌝ }
+        ensures { λ r. ⌜ Asks (self .client) Bool.true (routine «routine_control_type» «routine_identifier» (dataOf given (now («data» .entry)))) (now (request .entry)) (now (events .entry)) (now (replies .entry)) r (now (request .exit)) ⌝ }
     {
         let client = self.client;
-        client.request_exchange(
+        client.call(
             true,
-            Call::RoutineControl(routine_control_type, routine_identifier),
-            b"",
-            b"",
-            present,
+            Call::RoutineControl(routine_control_type, routine_identifier, given),
             data,
             request,
             events,

@@ -4,7 +4,7 @@ use mathlib.Core.List.{_++_}
 use lib.ListN.{replicate}
 use Rattle.rules.specs.Bytes.{bytesOf}
 use Rattle.rules.specs.Calls.{alfid}
-use Rattle.rules.specs.Checks.{judge}
+use Rattle.rules.specs.InOrder.{judge}
 use Rattle.rules.specs.Refusals.{width}
 use Rattle.wire.specs.declared.MemoryBytes.{MemoryBytes}
 

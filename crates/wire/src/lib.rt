@@ -6,6 +6,8 @@ ghost use Rattle.rules.specs.Bytes.{u16At, u32At};
 ghost use Rattle.wire.specs.Buffers.{Copied};
 ghost use Rattle.wire.specs.Memory.{memoryBytes, refused};
 
+pub mod constants;
+pub mod error;
 pub mod types;
 
 fn wide(b: u8) -> u16

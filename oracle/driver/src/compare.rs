@@ -32,8 +32,8 @@ pub fn differences(case: &Case, original: &Observed, other: &Observed) -> Vec<&'
         }
         (one, another) => one == another,
     };
-    let limit = case.setting.limit.map_or(u64::MAX, u64::from);
-    let shown = |timing: (u64, u64)| (timing.0.min(limit), timing.1.min(limit));
+    let overall = case.setting.overall.map_or(u64::MAX, u64::from);
+    let shown = |timing: (u64, u64)| (timing.0.min(overall), timing.1.min(overall));
     field("request bytes", original.request == other.request);
     field("outcome", same_outcome);
     field("finishing time", original.time == other.time);
@@ -78,7 +78,7 @@ pub struct Tally {
     strict: usize,
     suppressing: usize,
     not_handed_out: usize,
-    timing_cut_by_limit: usize,
+    timing_cut_by_overall: usize,
     timing_changed: usize,
 }
 
@@ -94,10 +94,10 @@ impl Tally {
         self.strict += case.setting.strict as usize;
         self.suppressing += case.suppressing() as usize;
         self.not_handed_out += (*outcome == Outcome::Positive(Data::NotHandedOut)) as usize;
-        let limit = case.setting.limit.map_or(u64::MAX, u64::from);
+        let overall = case.setting.overall.map_or(u64::MAX, u64::from);
         let before = (case.setting.p2.into(), case.setting.p2_star.into());
-        let shown: (u64, u64) = (limit.min(before.0), limit.min(before.1));
-        self.timing_cut_by_limit += (shown != before) as usize;
+        let shown: (u64, u64) = (overall.min(before.0), overall.min(before.1));
+        self.timing_cut_by_overall += (shown != before) as usize;
         self.timing_changed += (shown != observed.timing) as usize;
     }
 
@@ -126,7 +126,7 @@ impl Tally {
         );
         println!(
             "Session timing: {} cases changed it; in {} T hides P2 or P2* beyond T.",
-            self.timing_changed, self.timing_cut_by_limit
+            self.timing_changed, self.timing_cut_by_overall
         );
         println!(
             "Data of calls 6, 11 and 12, which the original does not hand out and document 01's rule judges: {} cases.",
@@ -226,15 +226,20 @@ fn smaller(case: &Case) -> Vec<Case> {
         });
     }
     with(&mut pack);
-    with(&mut |case| case.setting.limit = None);
+    with(&mut |case| case.setting.overall = None);
     with(&mut |case| case.setting.quiet = false);
     with(&mut |case| case.setting.server_timing = false);
     with(&mut |case| case.setting.p2 /= 2);
     with(&mut |case| case.setting.p2_star /= 2);
     with(&mut |case| case.setting.p2 = case.setting.p2.saturating_sub(1));
     with(&mut |case| case.setting.p2_star = case.setting.p2_star.saturating_sub(1));
-    with(&mut |case| case.setting.limit = case.setting.limit.map(|limit| limit / 2));
-    with(&mut |case| case.setting.limit = case.setting.limit.map(|limit| limit.saturating_sub(1)));
+    with(&mut |case| case.setting.overall = case.setting.overall.map(|overall| overall / 2));
+    with(&mut |case| {
+        case.setting.overall = case
+            .setting
+            .overall
+            .map(|overall| overall.saturating_sub(1))
+    });
     for at in 0..case.events.len() {
         let earliest = if at == 0 { 0 } else { case.events[at - 1].time };
         let time = case.events[at].time;

@@ -279,8 +279,8 @@ fn exchange(case: &Case) -> Answer {
     let mut deadline = p2;
     let (mut events, mut notices) = (0, 0);
     // Under T, only what stands at times up to T is counted.
-    let (mut events_to_limit, mut notices_to_limit) = (0, 0);
-    let limit = setting.limit.map_or(u64::MAX, u64::from);
+    let (mut events_to_overall, mut notices_to_overall) = (0, 0);
+    let overall = setting.overall.map_or(u64::MAX, u64::from);
     let mut reply = Place::default();
     let mut settled = None;
     for event in &case.events {
@@ -289,7 +289,7 @@ fn exchange(case: &Case) -> Answer {
             break;
         }
         events += 1;
-        events_to_limit += (time <= limit) as usize;
+        events_to_overall += (time <= overall) as usize;
         match event.kind {
             IDLE => continue,
             END => settled = Some((Verdict::Disconnected, time)),
@@ -302,7 +302,7 @@ fn exchange(case: &Case) -> Answer {
                 let bytes = &case.replies[place.at..place.at + place.length];
                 let Some(verdict) = judge(case, hush, bytes) else {
                     notices += 1;
-                    notices_to_limit += (time <= limit) as usize;
+                    notices_to_overall += (time <= overall) as usize;
                     hush = false;
                     deadline = time + u64::from(setting.p2_star);
                     continue;
@@ -320,9 +320,9 @@ fn exchange(case: &Case) -> Answer {
     } else {
         (Verdict::Timeout, deadline)
     });
-    if time > limit {
-        (verdict, time) = (Verdict::Timeout, limit);
-        (events, notices) = (events_to_limit, notices_to_limit);
+    if time > overall {
+        (verdict, time) = (Verdict::Timeout, overall);
+        (events, notices) = (events_to_overall, notices_to_overall);
         reply = Place::default();
     }
     Answer {

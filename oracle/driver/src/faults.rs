@@ -23,11 +23,13 @@ const FAULTS: [Fault; 18] = [
     },
     Fault {
         name: "T is 1 ms longer",
-        put_in: |case| case.setting.limit = case.setting.limit.map(|time| time.saturating_add(1)),
+        put_in: |case| {
+            case.setting.overall = case.setting.overall.map(|time| time.saturating_add(1))
+        },
     },
     Fault {
         name: "T is left out",
-        put_in: |case| case.setting.limit = None,
+        put_in: |case| case.setting.overall = None,
     },
     Fault {
         name: "strict and lenient swapped",

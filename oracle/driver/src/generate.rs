@@ -375,7 +375,7 @@ fn times(rng: &mut Rng, visit: &mut Visit) {
 
 /// Visits the case with every continuation of up to `more` events; its deadline so far is given.
 fn times_from(rng: &mut Rng, case: &mut Case, deadline: u64, more: usize, visit: &mut Visit) {
-    with_limits(case, visit);
+    with_overall(case, visit);
     if more == 0 {
         return;
     }
@@ -422,7 +422,7 @@ fn times_from(rng: &mut Rng, case: &mut Case, deadline: u64, more: usize, visit:
                 Some(deadline) if u64::from(time) <= deadline => {
                     times_from(rng, case, deadline, more - 1, visit)
                 }
-                _ => with_limits(case, visit),
+                _ => with_overall(case, visit),
             }
             case.events.truncate(events);
             case.replies.truncate(replies);
@@ -431,24 +431,24 @@ fn times_from(rng: &mut Rng, case: &mut Case, deadline: u64, more: usize, visit:
 }
 
 /// Visits the case without T and with T around its finishing time, P2 and its last event's time.
-fn with_limits(case: &mut Case, visit: &mut Visit) {
-    case.setting.limit = None;
+fn with_overall(case: &mut Case, visit: &mut Visit) {
+    case.setting.overall = None;
     visit(case);
     let finish = direct::call(case, &mut [0; 4095]).time;
     let last = case.events.last().map_or(0, |event| event.time.into());
-    let mut limits: Vec<u32> = [finish, last, case.setting.p2.into()]
+    let mut times: Vec<u32> = [finish, last, case.setting.p2.into()]
         .into_iter()
         .flat_map(|time: u64| [time.saturating_sub(1), time, time + 1])
         .filter_map(|time| u32::try_from(time).ok())
         .chain([0, u32::MAX])
         .collect();
-    limits.sort();
-    limits.dedup();
-    for limit in limits {
-        case.setting.limit = Some(limit);
+    times.sort();
+    times.dedup();
+    for overall in times {
+        case.setting.overall = Some(overall);
         visit(case);
     }
-    case.setting.limit = None;
+    case.setting.overall = None;
 }
 
 /// Every reply length around each bound, from none up, and the longest: a good reply cut or drawn out.
@@ -510,7 +510,7 @@ fn some_case(rng: &mut Rng, calls: &[Call]) -> Case {
         quiet: rng.once_in(3),
         p2,
         p2_star,
-        limit: rng.once_in(3).then(|| rng.below(12000) as u32),
+        overall: rng.once_in(3).then(|| rng.below(12000) as u32),
     };
     Case::new(call, setting)
 }
@@ -683,7 +683,7 @@ fn long_lists(rng: &mut Rng, visit: &mut Visit) {
     let calls = sample_calls();
     for _ in 0..3000 {
         let mut case = some_case(rng, &calls);
-        case.setting.limit = rng.once_in(8).then(|| rng.below(400_000) as u32);
+        case.setting.overall = rng.once_in(8).then(|| rng.below(400_000) as u32);
         let count = rng.pick(&[1, 8, 63, 64, 65, 127, 128, 129, 256, 510, 511, 512]);
         let mut now = 0;
         let mut deadline = u64::from(case.setting.p2);
@@ -754,12 +754,12 @@ fn sessions(rng: &mut Rng, visit: &mut Visit) {
     for strict in [true, false] {
         for server_timing in [true, false] {
             for quiet in [true, false] {
-                for limit in [None, Some(5), Some(49), Some(60), Some(1_000_000)] {
+                for overall in [None, Some(5), Some(49), Some(60), Some(1_000_000)] {
                     let setting = Setting {
                         strict,
                         server_timing,
                         quiet,
-                        limit,
+                        overall,
                         ..Setting::default()
                     };
                     let mut case = Case::new(Call::Session { sub: 3 }, setting);
@@ -1082,7 +1082,7 @@ fn anything(rng: &mut Rng, visit: &mut Visit) {
         if rng.once_in(8) {
             case.setting.p2 = rng.next() as u32;
             case.setting.p2_star = rng.next() as u32;
-            case.setting.limit = rng.coin().then(|| rng.next() as u32);
+            case.setting.overall = rng.coin().then(|| rng.next() as u32);
         }
         let mut now = 0;
         for _ in 0..rng.below(6) {

@@ -37,8 +37,8 @@ fn examples() -> Vec<Vec<u8>> {
         quiet: true,
         ..strict
     };
-    let until = |limit| Setting {
-        limit: Some(limit),
+    let until = |overall| Setting {
+        overall: Some(overall),
         ..strict
     };
     let read = || Call::ReadIdentifier { id: 0xf190 };

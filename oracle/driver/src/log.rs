@@ -13,7 +13,7 @@ pub const BADLOG: &str = "badlog 0 0 0 -";
 const STRICT: u8 = 1;
 const SERVER_TIMING: u8 = 2;
 const QUIET: u8 = 4;
-const LIMIT: u8 = 8;
+const OVERALL: u8 = 8;
 const SUB: u8 = 16;
 const DATA: u8 = 32;
 
@@ -59,7 +59,7 @@ pub fn read(log: &[u8]) -> Option<Case> {
     let (event_count, events_at) = (u16_at(log, 14) as usize, u16_at(log, 16) as usize);
     let (reply_count, replies_at) = (u16_at(log, 18) as usize, u16_at(log, 20) as usize);
     let total = u16_at(log, 22) as usize;
-    let limit = u32_at(log, 32);
+    let overall = u32_at(log, 32);
 
     let fields = flags < 64
         && (number == 0 || !flag(SUB))
@@ -69,7 +69,7 @@ pub fn read(log: &[u8]) -> Option<Case> {
         && (uses_sub || flag(SUB) || sub == 0)
         && (uses_lengths || lengths == 0)
         && log[9] == 0
-        && (flag(LIMIT) || limit == 0)
+        && (flag(OVERALL) || overall == 0)
         && argument_count >= lengths
         && (flag(DATA) || argument_count == lengths);
     let areas = arguments_at == HEADER
@@ -99,7 +99,7 @@ pub fn read(log: &[u8]) -> Option<Case> {
         size: size.to_vec(),
     };
     let call = call_of(number, flags, value, sub, memory, rest);
-    let times = [u32_at(log, 24), u32_at(log, 28), limit];
+    let times = [u32_at(log, 24), u32_at(log, 28), overall];
     Some(Case {
         call,
         setting: setting_of(flags, times),
@@ -154,7 +154,7 @@ pub fn call_of(number: u8, flags: u8, value: u16, sub: u8, memory: Memory, data:
 }
 
 /// The setting that the flags and P2, P2*, T say.
-pub fn setting_of(flags: u8, [p2, p2_star, limit]: [u32; 3]) -> Setting {
+pub fn setting_of(flags: u8, [p2, p2_star, overall]: [u32; 3]) -> Setting {
     let flag = |weight| flags & weight != 0;
     Setting {
         strict: flag(STRICT),
@@ -162,7 +162,7 @@ pub fn setting_of(flags: u8, [p2, p2_star, limit]: [u32; 3]) -> Setting {
         quiet: flag(QUIET),
         p2,
         p2_star,
-        limit: flag(LIMIT).then_some(limit),
+        overall: flag(OVERALL).then_some(overall),
     }
 }
 
@@ -212,7 +212,7 @@ pub fn fields_of(case: &Case) -> Fields {
         (STRICT, setting.strict),
         (SERVER_TIMING, setting.server_timing),
         (QUIET, setting.quiet),
-        (LIMIT, setting.limit.is_some()),
+        (OVERALL, setting.overall.is_some()),
         (SUB, case.call.number() == 0 && sub.is_some()),
         (DATA, case.call.data().is_some()),
     ];
@@ -220,7 +220,7 @@ pub fn fields_of(case: &Case) -> Fields {
         flags: flags.iter().map(|&(weight, set)| weight * set as u8).sum(),
         value,
         sub: sub.unwrap_or(0),
-        times: [setting.p2, setting.p2_star, setting.limit.unwrap_or(0)],
+        times: [setting.p2, setting.p2_star, setting.overall.unwrap_or(0)],
     }
 }
 

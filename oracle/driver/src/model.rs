@@ -196,7 +196,7 @@ pub struct Setting {
     pub p2: u32,
     pub p2_star: u32,
     /// T.
-    pub limit: Option<u32>,
+    pub overall: Option<u32>,
 }
 
 impl Default for Setting {
@@ -207,7 +207,7 @@ impl Default for Setting {
             quiet: false,
             p2: 50,
             p2_star: 5000,
-            limit: None,
+            overall: None,
         }
     }
 }

@@ -454,7 +454,7 @@ async fn observe(case: &Case, probe: bool) -> Observed {
         UDSConfig {
             p2_timeout: millis(setting.p2),
             p2_star_timeout: millis(setting.p2_star),
-            request_timeout: setting.limit.map(millis),
+            request_timeout: setting.overall.map(millis),
             use_server_timing: setting.server_timing,
             strict: setting.strict,
         },

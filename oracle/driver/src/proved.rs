@@ -21,7 +21,7 @@ pub fn prepare(case: &Case) -> Prepared {
         strict: setting.strict,
         server_timing: setting.server_timing,
         suppressed: setting.quiet,
-        timeout: setting.limit,
+        overall: setting.overall,
     };
     Prepared {
         asked: Asked::new(&call_of(&case.call), &config),

@@ -14,7 +14,7 @@ struct Kind {
     call: u8,
     strict: bool,
     suppressing: bool,
-    limited: bool,
+    overall: bool,
     outcome: u8,
     /// The number of a deviation or a refusal.
     number: u8,
@@ -54,7 +54,7 @@ fn kind(generator: usize, case: &Case) -> Kind {
         call: case.call.number(),
         strict: case.setting.strict,
         suppressing: case.suppressing(),
-        limited: case.setting.limit.is_some(),
+        overall: case.setting.overall.is_some(),
         outcome,
         number,
         minimum,

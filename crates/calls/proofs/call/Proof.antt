@@ -1,4 +1,5 @@
--- `calls::call` meets its contract: a walk of its MIR, by hand. The session's borrow is opened and copied, the other parameters go to `run` as they are, the timing of the answer is stored behind the borrow, and it is closed.
+-- Generated: scripts/walks/call.py > crates/calls/proofs/call/Proof.antt && rt fmt
+-- `calls::call` meets its contract: a walk of its MIR. The session's borrow is opened and copied, the other parameters go to `run` as they are, the timing of the answer is stored behind the borrow, and it is closed.
 -- At exit nothing is had of the numbers, the structs and the shared slices (`stay-dropped`), and of request what `run` says of its last list (`gave-slice`).
 -- Assumes nothing.
 use mathlib.Core.Path.{_≡_, refl, ap}
@@ -33,7 +34,6 @@ use denote.Signature.{plain, shrSliceOf, namedLft}
 use denote.Signature.Struct.{makes}
 use denote.Steps.{only, opens, closes, owned, peeks, heard, nothing}
 use denote.Struct.Steps.{spelt}
-use denote.Struct.Laws as LL
 use denote.Triple.Statement.{Contract, Triple}
 use denote.Triple.Call.{calls-at}
 use denote.Triple.Clauses.{Lasts, ensured, lasts}
@@ -44,9 +44,10 @@ use denote.Triple.Walked.{says, Stays, stay-ref, gave-slice, stay-dropped, walkO
 use denote.Exit.{yes}
 use Rattle.requests.specs.Meaning.{callOf}
 use Rattle.calls.specs.Meaning.{settingOf, lentOf, handedOf, Called}
-use Rattle.calls.specs.declared.Session.{Session}
-use Rattle.calls.proofs.Session as SessionT
-use Rattle.calls.proofs.Session.Laws as SessionL
+use denote.Struct.Laws as LL
+use Rattle.exchange.specs.declared.types.Timing.{Timing}
+use Rattle.exchange.proofs.types.Timing as TimingT
+use Rattle.exchange.proofs.types.Timing.Laws as TimingL
 use Rattle.calls.specs.declared.Answered.{Answered}
 use Rattle.calls.proofs.Answered as AnsweredT
 use Rattle.calls.proofs.Answered.Laws as AnsweredL
@@ -56,40 +57,60 @@ use Rattle.calls.proofs.Handed.Laws as HandedL
 use Rattle.calls.specs.declared.Ask.{Ask}
 use Rattle.calls.proofs.Ask as AskT
 use Rattle.calls.proofs.Ask.Laws as AskL
-use Rattle.calls.proofs.run as core
-use Rattle.calls.proofs.run.Symbol as core-def
-use Rattle.calls.proofs.run.Symbol.{name as #core}
-use Rattle.calls.proofs.run.Met as core-thm
-use Rattle.calls.proofs.handed_out as part
-use Rattle.calls.proofs.handed_out.Symbol as part-def
-use Rattle.calls.proofs.handed_out.Symbol.{name as #part}
-use Rattle.calls.proofs.handed_out.Met as part-thm
+use Rattle.calls.proofs.run as run
+use Rattle.calls.proofs.run.Symbol as run-def
+use Rattle.calls.proofs.run.Symbol.{name as #run}
+use Rattle.calls.proofs.run.Met as run-thm
+use Rattle.calls.proofs.handed_out as out
+use Rattle.calls.proofs.handed_out.Symbol as out-def
+use Rattle.calls.proofs.handed_out.Symbol.{name as #out}
+use Rattle.calls.proofs.handed_out.Met as out-thm
 use Rattle.calls.proofs.call.Key.{name as #self}
 use Rattle.calls.proofs.call as self
 use Rattle.calls.proofs.call.Statement as stated
 use Rattle.calls.proofs.call.Code as code
 
 abbrev stayed : Stays (self.ended .signature .params) (self.ended .kept)
-stayed = (stay-ref (0 ∷ []) tt (plain (λ _. SessionT.the-row)), (stay-dropped (plain (λ _. AskT.the-row)) yes, (gave-slice (1 ∷ []) tt (plain (λ _. u8)), (stay-dropped (shrSliceOf (2 ∷ []) tt (plain (λ _. u8))) yes, (stay-dropped (shrSliceOf (3 ∷ []) tt (plain (λ _. u8))) yes, (stay-dropped (shrSliceOf (4 ∷ []) tt (plain (λ _. u8))) yes, (stay-dropped (shrSliceOf (5 ∷ []) tt (plain (λ _. u8))) yes, (stay-dropped (shrSliceOf (6 ∷ []) tt (plain (λ _. u8))) yes, tt))))))))
-
--- what is known of an answer is known of its timing
-part-is : (r : Answered) → Is AnsweredT.the-row r (AnsweredL.lowered r ∷ []) → Is SessionT.the-row (r .session) (SessionL.lowered (r .session) ∷ [])
-part-is r g = LL.owed AnsweredT.the-type AnsweredL.the-laws r _ g .1 .1 .0
+stayed = (
+  stay-ref (0 ∷ []) tt (plain (λ _. TimingT.the-row)),
+  (
+    stay-dropped (plain (λ _. AskT.the-row)) yes,
+    (
+      gave-slice (1 ∷ []) tt (plain (λ _. u8)),
+      (
+        stay-dropped (shrSliceOf (2 ∷ []) tt (plain (λ _. u8))) yes,
+        (
+          stay-dropped (shrSliceOf (3 ∷ []) tt (plain (λ _. u8))) yes,
+          (
+            stay-dropped (shrSliceOf (4 ∷ []) tt (plain (λ _. u8))) yes,
+            (
+              stay-dropped (shrSliceOf (5 ∷ []) tt (plain (λ _. u8))) yes,
+              (
+                stay-dropped (shrSliceOf (6 ∷ []) tt (plain (λ _. u8))) yes,
+                tt,
+              ),
+            ),
+          ),
+        ),
+      ),
+    ),
+  ),
+)
 
 -- the contracts that the proof cites
-abbrev Part : {M : Type 1} (𝓤 : URA M) (H : Heap 𝓤) (A : Atoms 𝓤) (at-mem : Memory → SProp 𝓤) (exec : Routine → Fun 𝓤) → Contract 𝓤
-Part 𝓤 H A at-mem exec = tripleOf 𝓤 H A part.signature (part.spec 𝓤 H A at-mem exec)
+abbrev run-contract : {M : Type 1} (𝓤 : URA M) (H : Heap 𝓤) (A : Atoms 𝓤) (at-mem : Memory → SProp 𝓤) (exec : Routine → Fun 𝓤) → Contract 𝓤
+run-contract 𝓤 H A at-mem exec = tripleOf 𝓤 H A run.signature (run.spec 𝓤 H A at-mem exec)
 
-abbrev Core : {M : Type 1} (𝓤 : URA M) (H : Heap 𝓤) (A : Atoms 𝓤) (at-mem : Memory → SProp 𝓤) (exec : Routine → Fun 𝓤) → Contract 𝓤
-Core 𝓤 H A at-mem exec = tripleOf 𝓤 H A core.signature (core.spec 𝓤 H A at-mem exec)
+abbrev out-contract : {M : Type 1} (𝓤 : URA M) (H : Heap 𝓤) (A : Atoms 𝓤) (at-mem : Memory → SProp 𝓤) (exec : Routine → Fun 𝓤) → Contract 𝓤
+out-contract 𝓤 H A at-mem exec = tripleOf 𝓤 H A out.signature (out.spec 𝓤 H A at-mem exec)
 
-module _ {M : Type 1} (𝓤 : URA M) (H : Heap 𝓤) (A : Atoms 𝓤) (W : Given 𝓤 H A) (at-mem : Memory → SProp 𝓤) (exec : Routine → Fun 𝓤) (κ κ₁ κ₂ κ₃ κ₄ κ₅ κ₆ : Lft) (q q₁ q₂ q₃ q₄ q₅ q₆ : Share) (b o : ℕ) (γ : GName) (h : Session) (ask : Ask) (request : RefT (List ℕ)) (address : RefT (List ℕ)) (size : RefT (List ℕ)) (payload : RefT (List ℕ)) (events : RefT (List ℕ)) (replies : RefT (List ℕ)) where
-  -- the lifetimes, the arguments and the machine values of `run`, but for the session's
+module _ {M : Type 1} (𝓤 : URA M) (H : Heap 𝓤) (A : Atoms 𝓤) (W : Given 𝓤 H A) (at-mem : Memory → SProp 𝓤) (exec : Routine → Fun 𝓤)
+    (κ κ₁ κ₂ κ₃ κ₄ κ₅ κ₆ : Lft) (q q₁ q₂ q₃ q₄ q₅ q₆ : Share) (b o : ℕ) (γ : GName)
+    (session : Timing) (ask : Ask) (request : RefT (List ℕ)) (address : RefT (List ℕ)) (size : RefT (List ℕ))
+    (payload : RefT (List ℕ)) (events : RefT (List ℕ)) (replies : RefT (List ℕ)) where
+  -- the lifetimes, what is passed beside the session, its machine values, and what it owns
   abbrev κs : Lfts 6
   κs = (κ₁, (κ₂, (κ₃, (κ₄, (κ₅, (κ₆, tt))))))
-
-  abbrev qs : Shares 6
-  qs = (q₁, (q₂, (q₃, (q₄, (q₅, (q₆, tt))))))
 
   abbrev Rest : Type 0
   Rest = Ask × (RefT (List ℕ) × (RefT (List ℕ) × (RefT (List ℕ) × (RefT (List ℕ) × (RefT (List ℕ) × (RefT (List ℕ) × Unit {0}))))))
@@ -103,47 +124,78 @@ module _ {M : Type 1} (𝓤 : URA M) (H : Heap 𝓤) (A : Atoms 𝓤) (W : Given
   abbrev vals : Vals
   vals = (AskL.lowered ask ∷ [], (slice-vals request, (slice-vals address, (slice-vals size, (slice-vals payload, (slice-vals events, (slice-vals replies, tt)))))))
 
-  abbrev x : RefT Session
-  x = record { ptr = (b, o); name = γ; now = h }
-
   abbrev Tail : Fml
-  Tail = owns (AskT.the-row ∷ MutSlice (named 0) κ₁ u8 ∷ ShrSlice (named 1) κ₂ u8 ∷ ShrSlice (named 2) κ₃ u8 ∷ ShrSlice (named 3) κ₄ u8 ∷ ShrSlice (named 4) κ₅ u8 ∷ ShrSlice (named 5) κ₆ u8 ∷ []) rest vals
+  Tail = owns (AskT.the-row ∷ MutSlice (named 0) κ₁ u8 ∷ ShrSlice (named 1) κ₂ u8 ∷ ShrSlice (named 2) κ₃ u8 ∷
+      ShrSlice (named 3) κ₄ u8 ∷ ShrSlice (named 4) κ₅ u8 ∷ ShrSlice (named 5) κ₆ u8 ∷ []) rest vals
+
+  -- what is ensured of an answer and the request's last list, and of the part of the replies that is handed out
+  abbrev Said : Answered → List ℕ → Type 0
+  Said r zs = Called (ask .strict) (settingOf ask session) (callOf (ask .call) (address .now) (size .now) (payload .now))
+      (lentOf (request .now) (events .now) (replies .now)) r zs
+
+  abbrev Handed-out : Answered → RefT (List ℕ) → Type 0
+  Handed-out r d = d .now ≡ handedOf r (replies .now)
+
+  abbrev qs : Shares 6
+  qs = (q₁, (q₂, (q₃, (q₄, (q₅, (q₆, tt))))))
+
+  abbrev x : RefT Timing
+  x = record { ptr = (b, o); name = γ; now = session }
 
   abbrev Post : Val → SProp 𝓤
   Post = walkOf 𝓤 H A self.ended stayed (self.clauses 𝓤 H A at-mem exec) .post (((κ, κs), (q, qs), tt, (x, rest), (vptr b o ∷ [], vals)), tt)
 
-  abbrev to-core : Core 𝓤 H A at-mem exec .Ghost
-  to-core = ((κs, qs, tt, (h, rest), (SessionL.lowered h ∷ [], vals)), tt)
+  -- what is known of an answer is known of its timing
+  timing-is : (r : Answered) → Is AnsweredT.the-row r (AnsweredL.lowered r ∷ []) → Is TimingT.the-row (r .timing) (TimingL.lowered (r .timing) ∷ [])
+  timing-is r g = (LL.owed AnsweredT.the-type AnsweredL.the-laws r _ g .1 .1 .1 .0)
 
-  -- the tokens: the replies' is the last
-  abbrev Tok : SProp 𝓤
-  Tok = alive 𝓤 H A part.signature (κ₆, tt) (q₆, tt)
+  -- the call of `run`, which is passed all that the parameters own; what the replies own is had twice
+  abbrev to-run : run-contract 𝓤 H A at-mem exec .Ghost
+  to-run = ((κs, qs, tt, (session, rest), (TimingL.lowered session ∷ [], vals)), tt)
 
-  abbrev Rep : Fml
-  Rep = ShrSlice (named 0) κ₆ u8 .own replies (slice-vals replies)
+  abbrev Replies : Fml
+  Replies = ShrSlice (named 0) κ₆ u8 .own replies (slice-vals replies)
 
-  -- what the replies own is had twice
-  twice : ent 𝓤 (sem 𝓤 H A Tail) (sep 𝓤 (sem 𝓤 H A Tail) (sem 𝓤 H A Rep))
+  twice : ent 𝓤 (sem 𝓤 H A Tail) (sep 𝓤 (sem 𝓤 H A Tail) (sem 𝓤 H A Replies))
   twice =
-      qed W (‵ Tail ∷ []) ∵ fsplit ! $ move ! (1 ∷ []) $ fsplit ! $ move ! (1 ∷ []) $ fsplit ! $ move ! (1 ∷ []) $ fsplit ! $ move ! (1 ∷ []) $ fsplit ! $ move ! (1 ∷ []) $ fsplit ! $ move ! (1 ∷ []) $ fsplit ! $ use1 W (‵ Rep ⊛ ‵ Rep) (shr-slice-copy 𝓤 H A W (named 0) κ₆ u8 .twice replies (slice-vals replies)) $ split ! $
-      move ! (0 ∷ 2 ∷ []) $ fjoin ! $ move ! (2 ∷ 0 ∷ []) $ fjoin ! $ move ! (2 ∷ 0 ∷ []) $ fjoin ! $ move ! (2 ∷ 0 ∷ []) $ fjoin ! $ move ! (2 ∷ 0 ∷ []) $ fjoin ! $ move ! (2 ∷ 0 ∷ []) $ fjoin ! $ move ! (2 ∷ 0 ∷ []) $ fjoin ! $ frame ! $ done !
+      qed W (‵ Tail ∷ []) ∵
+      fsplit ! $ move ! (1 ∷ []) $ fsplit ! $ move ! (1 ∷ []) $ fsplit ! $ move ! (1 ∷ []) $ fsplit ! $ move ! (1 ∷ []) $ fsplit ! $
+      move ! (1 ∷ []) $ fsplit ! $ move ! (1 ∷ []) $ fsplit ! $
+      use1 W (‵ Replies ⊛ ‵ Replies) (shr-slice-copy 𝓤 H A W (named 0) κ₆ u8 .twice replies (slice-vals replies)) $ split ! $ move ! (0 ∷ 2 ∷ []) $
+      fjoin ! $ move ! (2 ∷ 0 ∷ []) $ fjoin ! $ move ! (2 ∷ 0 ∷ []) $ fjoin ! $ move ! (2 ∷ 0 ∷ []) $ fjoin ! $ move ! (2 ∷ 0 ∷ []) $ fjoin ! $
+      move ! (2 ∷ 0 ∷ []) $ fjoin ! $ move ! (2 ∷ 0 ∷ []) $ fjoin ! $ frame ! $ done !
 
-  goes : Is SessionT.the-row h (SessionL.lowered h ∷ []) → ent 𝓤 (sep 𝓤 (alive 𝓤 H A core.signature κs qs) (sem 𝓤 H A Tail)) (sep 𝓤 (Core 𝓤 H A at-mem exec .pre to-core) (sem 𝓤 H A Rep))
-  goes g =
-      qed W (raw (alive 𝓤 H A core.signature κs qs) ∷ ‵ Tail ∷ []) ∵ move ! (1 ∷ []) $ use1 W (‵ Tail ⊛ ‵ Rep) twice $ split ! $ owned ! SessionT.the-row (Is SessionT.the-row) (LL.makes SessionT.the-type SessionL.the-plain 𝓤 H A) h _ g $ fjoin ! $ move ! (2 ∷ 0 ∷ []) $
-      use2 W (raw (Core 𝓤 H A at-mem exec .pre to-core)) (qed W (raw (alive 𝓤 H A core.signature κs qs) ∷ ‵ (fsep (SessionT.the-row .own h (SessionL.lowered h ∷ [])) Tail) ∷ []) ∵ join ! $ frame ! $ done !) $ frame ! $ done !
+  asked : ent 𝓤 (sep 𝓤 (alive 𝓤 H A run.signature κs qs) (sem 𝓤 H A (fsep (TimingT.the-row .own session (TimingL.lowered session ∷ [])) Tail)))
+      (run-contract 𝓤 H A at-mem exec .pre to-run)
+  asked =
+      qed W (raw (alive 𝓤 H A run.signature κs qs) ∷ ‵ (fsep (TimingT.the-row .own session (TimingL.lowered session ∷ [])) Tail) ∷ []) ∵ join ! $ frame ! $ done !
 
-  abbrev to-part : Answered → Val → Part 𝓤 H A at-mem exec .Ghost
-  to-part r w = (((κ₆, tt), (q₆, tt), tt, (r, (replies, tt)), (w ∷ [], (slice-vals replies, tt))), tt)
+  goes-run : Is TimingT.the-row session (TimingL.lowered session ∷ []) → ent 𝓤 (sep 𝓤 (alive 𝓤 H A run.signature κs qs) (sem 𝓤 H A Tail))
+      (sep 𝓤 (run-contract 𝓤 H A at-mem exec .pre to-run) (sem 𝓤 H A Replies))
+  goes-run g =
+      qed W (raw (alive 𝓤 H A run.signature κs qs) ∷ ‵ Tail ∷ []) ∵
+      move ! (1 ∷ []) $ use1 W (‵ Tail ⊛ ‵ Replies) twice $ split ! $
+      owned ! TimingT.the-row (Is TimingT.the-row) (LL.makes TimingT.the-type TimingL.the-plain 𝓤 H A) session _ g $ fjoin ! $
+      move ! (2 ∷ 0 ∷ []) $ use2 W (raw (run-contract 𝓤 H A at-mem exec .pre to-run)) asked $ frame ! $ done !
 
-  goes-part : (r : Answered) (w : Val) → ent 𝓤 (⋆ 𝓤 H A (‵ (AnsweredT.the-row .own r (w ∷ [])) ∷ raw Tok ∷ ‵ Rep ∷ [])) (Part 𝓤 H A at-mem exec .pre (to-part r w))
-  goes-part r w =
-      qed W (‵ (AnsweredT.the-row .own r (w ∷ [])) ∷ raw Tok ∷ ‵ Rep ∷ []) ∵ nothing ! $ move ! (3 ∷ 0 ∷ []) $ fjoin ! $ move ! (1 ∷ 0 ∷ []) $ fjoin ! $ move ! (1 ∷ 0 ∷ []) $ join ! $ frame ! $ done !
+  -- the call of `handed_out`, which has the last token
+  abbrev Token : SProp 𝓤
+  Token = alive 𝓤 H A out.signature (κ₆, tt) (q₆, tt)
 
-  part-said : (r : Answered) (d : RefT (List ℕ)) → ent 𝓤 (ensured 𝓤 H A part.ended (part.clauses 𝓤 H A at-mem exec) (κ₆, tt) (r, (replies, tt)) tt d) (fact 𝓤 (d .now ≡ handedOf r (replies .now)))
-  part-said r d = exE 𝓤 _ (λ ws. snd∗ 𝓤 (sem 𝓤 H A (lasts part.ended (κ₆, tt) (r, (replies, tt)) ws)) (fact 𝓤 (d .now ≡ handedOf r (replies .now))))
+  abbrev to-out : Answered → Val → out-contract 𝓤 H A at-mem exec .Ghost
+  to-out r w = (((κ₆, tt), (q₆, tt), tt, (r, (replies, tt)), (w ∷ [], (slice-vals replies, tt))), tt)
 
-  -- what is handed out
+  goes-out : (r : Answered) (w : Val) → ent 𝓤 (⋆ 𝓤 H A (‵ (AnsweredT.the-row .own r (w ∷ [])) ∷ raw Token ∷ ‵ Replies ∷ []))
+      (out-contract 𝓤 H A at-mem exec .pre (to-out r w))
+  goes-out r w =
+      qed W (‵ (AnsweredT.the-row .own r (w ∷ [])) ∷ raw Token ∷ ‵ Replies ∷ []) ∵
+      nothing ! $ move ! (3 ∷ 0 ∷ []) $ fjoin ! $ move ! (1 ∷ 0 ∷ []) $ fjoin ! $ move ! (1 ∷ 0 ∷ []) $ join ! $ frame ! $ done !
+
+  out-said : (r : Answered) (d : RefT (List ℕ))
+      → ent 𝓤 (ensured 𝓤 H A out.ended (out.clauses 𝓤 H A at-mem exec) (κ₆, tt) (r, (replies, tt)) tt d) (fact 𝓤 (Handed-out r d))
+  out-said r d = exE 𝓤 _ (λ ws. snd∗ 𝓤 (sem 𝓤 H A (lasts out.ended (κ₆, tt) (r, (replies, tt)) ws)) (fact 𝓤 (Handed-out r d)))
+
+  -- what is returned
   abbrev α : NamedLft
   α = namedLft 7 6 tt (κ, κs)
 
@@ -156,75 +208,192 @@ module _ {M : Type 1} (𝓤 : URA M) (H : Heap 𝓤) (A : Atoms 𝓤) (W : Given
   abbrev Held : Answered → RefT (List ℕ) → List Val × (List Val × Unit {0}) → Fml
   Held r d vss = fsep (AnsweredT.the-row .own r (vss .0)) (fsep (ShrSlice (named 6) κ₆ u8 .own d (vss .1 .0)) ftrue)
 
-  exits : (r : Answered) (d : RefT (List ℕ)) (v : Val) (zs : List ℕ) → Called (ask .strict) (settingOf ask h) (callOf (ask .call) (address .now) (size .now) (ask .present) (payload .now)) (lentOf (request .now) (events .now) (replies .now)) r zs → length zs ≡ length (request .now) → d .now ≡ handedOf r (replies .now)
-      → ent 𝓤 (⋆ 𝓤 H A (‵ (fobs γ (SessionT.the-row .coded .code (r .session))) ∷ ‵ (fbor κ (Body (mem SessionT.the-row) b o γ)) ∷ ‵ (flft κ q) ∷ ‵ (HandedT.the-row α .own (made r d) (mach (AnsweredL.lowered r) v ∷ [])) ∷ raw Tok ∷ ‵ (flft κ₅ q₅) ∷ ‵ (flft κ₄ q₄) ∷ ‵ (flft κ₃ q₃) ∷ ‵ (flft κ₂ q₂) ∷ ‵ (flft κ₁ q₁) ∷ ‵ (finally u8 (request .name) zs) ∷ [])) (Post (mach (AnsweredL.lowered r) v))
+  exits : (r : Answered) (d : RefT (List ℕ)) (v : Val) (zs : List ℕ) → Said r zs → length zs ≡ length (request .now) → Handed-out r d
+      → ent 𝓤 (⋆ 𝓤 H A (‵ (fobs γ (TimingT.the-row .coded .code (r .timing))) ∷ ‵ (fbor κ (Body (mem TimingT.the-row) b o γ)) ∷ ‵ (flft κ q) ∷
+      ‵ (HandedT.the-row α .own (made r d) (mach (AnsweredL.lowered r) v ∷ [])) ∷ ‵ (flft κ₁ q₁) ∷ ‵ (flft κ₂ q₂) ∷
+      ‵ (flft κ₃ q₃) ∷ ‵ (flft κ₄ q₄) ∷ ‵ (flft κ₅ q₅) ∷ raw Token ∷ ‵ (finally u8 (request .name) zs) ∷ [])) (Post (mach (AnsweredL.lowered r) v))
   exits r d v zs e l e₂ =
-      qed W (‵ (fobs γ (SessionT.the-row .coded .code (r .session))) ∷ ‵ (fbor κ (Body (mem SessionT.the-row) b o γ)) ∷ ‵ (flft κ q) ∷ ‵ (HandedT.the-row α .own (made r d) (mach (AnsweredL.lowered r) v ∷ [])) ∷ raw Tok ∷ ‵ (flft κ₅ q₅) ∷ ‵ (flft κ₄ q₄) ∷ ‵ (flft κ₃ q₃) ∷ ‵ (flft κ₂ q₂) ∷ ‵ (flft κ₁ q₁) ∷ ‵ (finally u8 (request .name) zs) ∷ []) ∵
-      suffices ! _ (ends-at 𝓤 H A self.ended stayed (self.clauses 𝓤 H A at-mem exec) W (((κ, κs), (q, qs), tt, (x, rest), (vptr b o ∷ [], vals)), tt) (mach (AnsweredL.lowered r) v) (made r d) (r .session, (tt, (zs, (tt, (tt, (tt, (tt, (tt, tt)))))))) (tt, (tt, (l, (tt, (tt, (tt, (tt, (tt, tt))))))))) $
-      says ! (e, e₂, refl) $ move ! (5 ∷ 4 ∷ []) $ join ! $ move ! (5 ∷ 0 ∷ []) $ join ! $ move ! (5 ∷ 0 ∷ []) $ join ! $ move ! (5 ∷ 0 ∷ []) $ join ! $ move ! (5 ∷ 0 ∷ []) $ join ! $ move ! (3 ∷ 0 ∷ []) $ join ! $ frame ! $
-      -- [obs; the borrow; what is handed out; the last list]
-      nothing ! $ nothing ! $ fjoin ! $ nothing ! $ fjoin ! $ nothing ! $ fjoin ! $ nothing ! $ fjoin ! $ nothing ! $ fjoin ! $ move ! (4 ∷ 0 ∷ []) $ fjoin ! $ nothing ! $ fjoin ! $ move ! (1 ∷ 2 ∷ 0 ∷ []) $ feqI ! (List Val) (vptr b o ∷ []) (vptr b o ∷ []) refl $ fjoin3 ! $ fjoin ! $ done !
+      qed W (‵ (fobs γ (TimingT.the-row .coded .code (r .timing))) ∷ ‵ (fbor κ (Body (mem TimingT.the-row) b o γ)) ∷ ‵ (flft κ q) ∷
+      ‵ (HandedT.the-row α .own (made r d) (mach (AnsweredL.lowered r) v ∷ [])) ∷ ‵ (flft κ₁ q₁) ∷ ‵ (flft κ₂ q₂) ∷
+      ‵ (flft κ₃ q₃) ∷ ‵ (flft κ₄ q₄) ∷ ‵ (flft κ₅ q₅) ∷ raw Token ∷ ‵ (finally u8 (request .name) zs) ∷ []) ∵
+      suffices ! _ (ends-at 𝓤 H A self.ended stayed (self.clauses 𝓤 H A at-mem exec) W (((κ, κs), (q, qs), tt, (x, rest), (vptr b o ∷ [], vals)), tt)
+      (mach (AnsweredL.lowered r) v) (made r d) (r .timing, (tt, (zs, (tt, (tt, (tt, (tt, (tt, tt)))))))) (tt, (tt, (l, (tt, (tt, (tt, (tt, (tt, tt))))))))) $
+      says ! (e, e₂, refl) $ move ! (8 ∷ 9 ∷ []) $ join ! $ move ! (8 ∷ 0 ∷ []) $ join ! $ move ! (7 ∷ 0 ∷ []) $ join ! $ move ! (6 ∷ 0 ∷ []) $
+      join ! $ move ! (5 ∷ 0 ∷ []) $ join ! $ move ! (3 ∷ 0 ∷ []) $ join ! $ frame ! $ nothing ! $ nothing ! $ fjoin ! $ nothing ! $ fjoin ! $
+      nothing ! $ fjoin ! $ nothing ! $ fjoin ! $ nothing ! $ fjoin ! $ move ! (4 ∷ 0 ∷ []) $ fjoin ! $ nothing ! $ fjoin ! $ move ! (1 ∷ 2 ∷ []) $
+      feqI ! (List Val) (vptr b o ∷ []) (vptr b o ∷ []) refl $ fjoin3 ! $ fjoin ! $ done !
 
-  module _ (C : Calls 𝓤 H) (Λ : Loops 𝓤 H) (fm : FmC 𝓤 H (W .laws) C) (known : Triple 𝓤 (C #core) (Core 𝓤 H A at-mem exec)) (known-part : Triple 𝓤 (C #part) (Part 𝓤 H A at-mem exec)) where
-    walk : Is (AskT.the-row) ask (AskL.lowered ask ∷ []) → Is (MutSlice (named 1) κ₁ u8) request (slice-vals request) → Is (ShrSlice (named 2) κ₂ u8) address (slice-vals address) → Is (ShrSlice (named 3) κ₃ u8) size (slice-vals size) → Is (ShrSlice (named 4) κ₄ u8) payload (slice-vals payload) → Is (ShrSlice (named 5) κ₅ u8) events (slice-vals events) → Is (ShrSlice (named 6) κ₆ u8) replies (slice-vals replies)
-        → ent 𝓤 (onEntry 𝓤 H A self.signature (κ, κs) (q, qs) (x, rest) (vptr b o ∷ [], vals)) (WpFn 𝓤 H C Λ code.function (vptr b o ∷ AskL.lowered ask ∷ only (slice-vals request) ∷ only (slice-vals address) ∷ only (slice-vals size) ∷ only (slice-vals payload) ∷ only (slice-vals events) ∷ only (slice-vals replies) ∷ []) Post)
+  module _ (C : Calls 𝓤 H) (Λ : Loops 𝓤 H) (fm : FmC 𝓤 H (W .laws) C)
+      (known-run : Triple 𝓤 (C #run) (run-contract 𝓤 H A at-mem exec))
+      (known-out : Triple 𝓤 (C #out) (out-contract 𝓤 H A at-mem exec)) where
+    walk : Is (AskT.the-row) ask (AskL.lowered ask ∷ [])
+        → Is (MutSlice (named 1) κ₁ u8) request (slice-vals request)
+        → Is (ShrSlice (named 2) κ₂ u8) address (slice-vals address)
+        → Is (ShrSlice (named 3) κ₃ u8) size (slice-vals size)
+        → Is (ShrSlice (named 4) κ₄ u8) payload (slice-vals payload)
+        → Is (ShrSlice (named 5) κ₅ u8) events (slice-vals events)
+        → Is (ShrSlice (named 6) κ₆ u8) replies (slice-vals replies)
+        → ent 𝓤 (onEntry 𝓤 H A self.signature (κ, κs) (q, qs) (x, rest) (vptr b o ∷ [], vals))
+        (WpFn 𝓤 H C Λ code.function (vptr b o ∷ AskL.lowered ask ∷ only (slice-vals request) ∷ only (slice-vals address) ∷ only (slice-vals size) ∷
+        only (slice-vals payload) ∷ only (slice-vals events) ∷ only (slice-vals replies) ∷ []) Post)
     walk g-ask g-request g-address g-size g-payload g-events g-replies =
-        qed W ((‵ (flft κ q) ⊛ raw (alive 𝓤 H A core.signature κs qs)) ∷ ‵ (owns (MutRef (named 0) κ SessionT.the-row ∷ AskT.the-row ∷ MutSlice (named 1) κ₁ u8 ∷ ShrSlice (named 2) κ₂ u8 ∷ ShrSlice (named 3) κ₃ u8 ∷ ShrSlice (named 4) κ₄ u8 ∷ ShrSlice (named 5) κ₅ u8 ∷ ShrSlice (named 6) κ₆ u8 ∷ []) (x, rest) (vptr b o ∷ [], vals)) ∷ []) ∵
-        split ! $ move ! (2 ∷ []) $ fsplit ! $ fsplit3 ! $ drop ! $ move ! (0 ∷ 1 ∷ 3 ∷ []) $
-        -- [obs; the borrow; its token; what the others own; their tokens]
-        enter ! C Λ code.function (vptr b o ∷ AskL.lowered ask ∷ only (slice-vals request) ∷ only (slice-vals address) ∷ only (slice-vals size) ∷ only (slice-vals payload) ∷ only (slice-vals events) ∷ only (slice-vals replies) ∷ []) _ $
-        alloc1 ! (λ l₀. alloc1 ! (λ l₁. alloc1 ! (λ l₂. alloc1 ! (λ l₃. alloc1 ! (λ l₄. alloc1 ! (λ l₅. alloc1 ! (λ l₆. alloc1 ! (λ l₇. alloc1 ! (λ l₈. alloc1 ! (λ l₉. alloc1 ! (λ l₁₀. alloc1 ! (λ l₁₁. alloc1 ! (λ l₁₂. alloc1 ! (λ l₁₃. alloc0 ! $
-        params1 ! $ pass1 ! (init ! 24 refl (tt, tt)) $ pass1 ! (init ! 22 refl (LL.lawful AskT.the-type AskL.the-laws 𝓤 H A W .typed ask _ g-ask .0)) $ pass1 ! (init ! 20 refl (mut-slice-lawful 𝓤 H A W (named 1) κ₁ u8 .typed request _ g-request .0)) $ pass1 ! (init ! 18 refl (shr-slice-lawful 𝓤 H A W (named 2) κ₂ u8 .typed address _ g-address .0)) $ pass1 ! (init ! 16 refl (shr-slice-lawful 𝓤 H A W (named 3) κ₃ u8 .typed size _ g-size .0)) $ pass1 ! (init ! 14 refl (shr-slice-lawful 𝓤 H A W (named 4) κ₄ u8 .typed payload _ g-payload .0)) $ pass1 ! (init ! 12 refl (shr-slice-lawful 𝓤 H A W (named 5) κ₅ u8 .typed events _ g-events .0)) $ pass1 ! (init ! 10 refl (shr-slice-lawful 𝓤 H A W (named 6) κ₆ u8 .typed replies _ g-replies .0)) $ pass0 ! $
-        move ! (28 ∷ 29 ∷ 30 ∷ []) $ opens ! tt SessionT.the-row {h = h} b o (λ vs. spelt ! SessionT.the-row (Is SessionT.the-row) (shows 𝓤 H A SessionT.the-row) (LL.vals SessionT.the-type SessionL.the-laws) (LL.tells SessionT.the-type SessionL.the-laws) fullShare h vs b o $
-        move ! (1 ∷ []) $ peeks ! SessionT.the-row (Is SessionT.the-row) (shows 𝓤 H A SessionT.the-row) h (SessionL.lowered h ∷ []) (λ g. drop ! $
-        -- [the session's cell; the open borrow; obs; auth; the locals, the last first, each with what frees it; what the others own; their tokens]
-        assigns ! (of-opd ! (load ! (from ! (hop ! (look ! 28 refl) (stop !))) (look-raw ! 0 refl))) (from ! (stop !)) (init ! 8 refl (LL.lawful SessionT.the-type SessionL.the-laws 𝓤 H A W .typed h _ g .0)) $
-        assigns ! (addr ! (from ! (fld ! refl (hop ! (look-in ! 24 (sub ! 0 refl (whole !))) (stop !))))) (from ! (stop !)) (init ! 6 refl (tt, tt)) $
-        assigns ! (agg ! (and-then ! (load ! (from ! (stop !)) (look ! 6 refl)) (and-then ! (load ! (from ! (fld ! refl (stop !))) (look-in ! 24 (sub ! 1 refl (whole !)))) (no-more !)))) (from ! (stop !)) (init ! 4 refl (tt, (tt, (record { fits = g-request .0 .1 .0 }, tt)))) $
-        move ! (33 ∷ 32 ∷ []) $ use2 W (raw (Core 𝓤 H A at-mem exec .pre to-core) ⊛ ‵ Rep) (goes g) $ split ! $
-        calls-at ! fm (Core 𝓤 H A at-mem exec) known to-core (and-then ! (load ! (from ! (stop !)) (look ! 10 refl)) (and-then ! (load ! (from ! (stop !)) (look ! 28 refl)) (and-then ! (load ! (from ! (stop !)) (look ! 6 refl)) (and-then ! (load ! (from ! (stop !)) (look ! 24 refl)) (and-then ! (load ! (from ! (stop !)) (look ! 22 refl)) (and-then ! (load ! (from ! (stop !)) (look ! 20 refl)) (and-then ! (load ! (from ! (stop !)) (look ! 18 refl)) (and-then ! (load ! (from ! (stop !)) (look ! 16 refl)) (no-more !))))))))) (λ w.
-        use1 W (later (some (λ (r : Answered). ((‵ (flft κ₁ q₁) ⊛ ‵ (flft κ₂ q₂) ⊛ ‵ (flft κ₃ q₃) ⊛ ‵ (flft κ₄ q₄) ⊛ ‵ (flft κ₅ q₅) ⊛ raw Tok) ⊛ ‵ (AnsweredT.the-row .own r (w ∷ []))) ⊛ raw (ensured 𝓤 H A core.ended (core.clauses 𝓤 H A at-mem exec) κs (h, rest) tt r)))) (id⊢ 𝓤 _) $ await ! tt $ pick ! (λ r.
-        -- what `run` ensures, at some last list
-        split ! $ move ! (1 ∷ []) $ use1 W (some (λ (zs : Lasts core.ended κs (h, rest)). ‵ (lasts core.ended κs (h, rest) zs) ⊛ raw (fact 𝓤 (Called (ask .strict) (settingOf ask h) (callOf (ask .call) (address .now) (size .now) (ask .present) (payload .now)) (lentOf (request .now) (events .now) (replies .now)) r (zs .1 .1 .0))))) (id⊢ 𝓤 _) $ pick ! (λ zs.
-        split ! $ move ! (1 ∷ []) $ heard ! (Called (ask .strict) (settingOf ask h) (callOf (ask .call) (address .now) (size .now) (ask .present) (payload .now)) (lentOf (request .now) (events .now) (replies .now)) r (zs .1 .1 .0)) (λ e. fsplit ! $ drop ! $ fsplit ! $ drop ! $ fsplit ! $ fsplit ! $ move ! (2 ∷ []) $ drop ! $ move ! (1 ∷ []) $ feqL ! (λ l.
-        move ! (1 ∷ []) $ split ! $ move ! (1 ∷ []) $ peeks ! AnsweredT.the-row (Is AnsweredT.the-row) (shows 𝓤 H A AnsweredT.the-row) r (w ∷ []) (λ is.
-        -- [the answer; the tokens; the last list; the replies; the session's cell; the open borrow; obs; auth; the locals]
-        land ! (from ! (stop !)) (init ! 16 refl (LL.lawful AnsweredT.the-type AnsweredL.the-laws 𝓤 H A W .typed r _ is .0)) $ rewrite ! 16 (λ (u : Val). ‵ (fat fullShare AnsweredL.mir l₉ 0 u)) (ap only (AnsweredL.lowers .val-is r _ is)) refl $
-        rewrite ! 0 (λ (us : List Val). ‵ (AnsweredT.the-row .own r us)) (AnsweredL.lowers .val-is r _ is) refl $ peeks ! AnsweredT.the-row (Is AnsweredT.the-row) (shows 𝓤 H A AnsweredT.the-row) r (AnsweredL.lowered r ∷ []) (λ is′.
-        move ! (1 ∷ []) $ split ! $ move ! (1 ∷ []) $ split ! $ move ! (1 ∷ []) $ split ! $ move ! (1 ∷ []) $ split ! $ move ! (1 ∷ []) $ split ! $
-        -- [a token; the replies' token; the other tokens; the answer; the last list; the replies; the session's cell; the open borrow; obs; auth; the locals]
-        move ! (6 ∷ 1 ∷ 8 ∷ []) $ use3 W (raw (Part 𝓤 H A at-mem exec .pre (to-part r (AnsweredL.lowered r)))) (goes-part r (AnsweredL.lowered r)) $
-        calls-at ! fm (Part 𝓤 H A at-mem exec) known-part (to-part r (AnsweredL.lowered r)) (and-then ! (load ! (from ! (stop !)) (look ! 19 refl)) (and-then ! (load ! (from ! (stop !)) (look ! 21 refl)) (no-more !))) (λ v.
-        use1 W (later (some (λ (d : RefT (List ℕ)). (raw Tok ⊛ ‵ (ShrSlice (named 0) κ₆ u8 .own d (v ∷ []))) ⊛ raw (ensured 𝓤 H A part.ended (part.clauses 𝓤 H A at-mem exec) (κ₆, tt) (r, (replies, tt)) tt d)))) (id⊢ 𝓤 _) $ await ! tt $ pick ! (λ d.
-        split ! $ move ! (1 ∷ []) $ use1 W (raw (fact 𝓤 (d .now ≡ handedOf r (replies .now)))) (part-said r d) $ heard ! (d .now ≡ handedOf r (replies .now)) (λ e₂. split ! $ move ! (1 ∷ []) $
+        qed W ((‵ (flft κ q) ⊛ raw (alive 𝓤 H A run.signature κs qs)) ∷ ‵ (fsep (MutRef (named 0) κ TimingT.the-row .own x (vptr b o ∷ [])) Tail) ∷ []) ∵
+        split ! $ move ! (2 ∷ []) $ fsplit ! $ fsplit3 ! $ drop ! $
+        enter ! C Λ code.function (vptr b o ∷ AskL.lowered ask ∷ only (slice-vals request) ∷ only (slice-vals address) ∷ only (slice-vals size) ∷
+        only (slice-vals payload) ∷ only (slice-vals events) ∷ only (slice-vals replies) ∷ []) _ $ alloc1 ! (λ l₀. alloc1 ! (λ l₁.
+        alloc1 ! (λ l₂. alloc1 ! (λ l₃. alloc1 ! (λ l₄. alloc1 ! (λ l₅. alloc1 ! (λ l₆. alloc1 ! (λ l₇. alloc1 ! (λ l₈. alloc1 ! (λ l₉.
+        alloc1 ! (λ l₁₀. alloc1 ! (λ l₁₁. alloc1 ! (λ l₁₂. alloc1 ! (λ l₁₃. alloc0 ! $ params1 ! $ pass1 ! (init ! 24 refl (tt, tt)) $
+        pass1 ! (init ! 22 refl (LL.lawful AskT.the-type AskL.the-laws 𝓤 H A W .typed ask _ g-ask .0)) $
+        pass1 ! (init ! 20 refl (mut-slice-lawful 𝓤 H A W (named 1) κ₁ u8 .typed request _ g-request .0)) $
+        pass1 ! (init ! 18 refl (shr-slice-lawful 𝓤 H A W (named 2) κ₂ u8 .typed address _ g-address .0)) $
+        pass1 ! (init ! 16 refl (shr-slice-lawful 𝓤 H A W (named 3) κ₃ u8 .typed size _ g-size .0)) $
+        pass1 ! (init ! 14 refl (shr-slice-lawful 𝓤 H A W (named 4) κ₄ u8 .typed payload _ g-payload .0)) $
+        pass1 ! (init ! 12 refl (shr-slice-lawful 𝓤 H A W (named 5) κ₅ u8 .typed events _ g-events .0)) $
+        pass1 ! (init ! 10 refl (shr-slice-lawful 𝓤 H A W (named 6) κ₆ u8 .typed replies _ g-replies .0)) $ pass0 ! $
+        -- the borrow is opened, and the session copied
+        move ! (28 ∷ 29 ∷ 31 ∷ []) $ opens ! tt TimingT.the-row {h = session} b o (λ vs.
+        spelt ! TimingT.the-row (Is TimingT.the-row) (shows 𝓤 H A TimingT.the-row)
+        (LL.vals TimingT.the-type TimingL.the-laws) (LL.tells TimingT.the-type TimingL.the-laws) fullShare session vs b o $ move ! (1 ∷ []) $
+        peeks ! (TimingT.the-row) (Is (TimingT.the-row)) (shows 𝓤 H A (TimingT.the-row)) session (TimingL.lowered session ∷ []) (λ g. drop ! $
+        -- [lent; the open borrow; obs; auth; the locals; what the others own; the tokens]
+        assigns ! (of-opd ! (load ! (from ! (hop ! (look ! 28 refl) (stop !))) (look-raw ! 0 refl)))
+        (from ! (stop !)) (init ! 8 refl (LL.lawful TimingT.the-type TimingL.the-laws 𝓤 H A W .typed session _ g .0)) $
+        assigns ! (addr ! (from ! (fld ! refl (hop ! (look-in ! 24 (sub ! 0 refl (whole !))) (stop !)))))
+        (from ! (stop !)) (init ! 6 refl (tt, tt)) $
+        assigns ! (agg ! (and-then ! (load ! (from ! (stop !)) (look ! 6 refl))
+        (and-then ! (load ! (from ! (fld ! refl (stop !))) (look-in ! 24 (sub ! 1 refl (whole !)))) (no-more !))))
+        (from ! (stop !)) (init ! 4 refl (tt, (tt, (record { fits = g-request .0 .1 .0 }, tt)))) $
+        -- `run`
+        move ! (33 ∷ 32 ∷ []) $ use2 W (raw (run-contract 𝓤 H A at-mem exec .pre to-run) ⊛ ‵ Replies) (goes-run g) $ split ! $
+        calls-at ! fm (run-contract 𝓤 H A at-mem exec) known-run (to-run)
+        (and-then ! (load ! (from ! (stop !)) (look ! 10 refl)) (and-then ! (load ! (from ! (stop !)) (look ! 28 refl))
+        (and-then ! (load ! (from ! (stop !)) (look ! 6 refl)) (and-then ! (load ! (from ! (stop !)) (look ! 24 refl))
+        (and-then ! (load ! (from ! (stop !)) (look ! 22 refl)) (and-then ! (load ! (from ! (stop !)) (look ! 20 refl))
+        (and-then ! (load ! (from ! (stop !)) (look ! 18 refl)) (and-then ! (load ! (from ! (stop !)) (look ! 16 refl))
+        (no-more !))))))))) (λ w.
+        use1 W (later (some (λ (r : Answered). ((‵ (flft κ₁ q₁) ⊛ ‵ (flft κ₂ q₂) ⊛ ‵ (flft κ₃ q₃) ⊛ ‵ (flft κ₄ q₄) ⊛ ‵ (flft κ₅ q₅) ⊛ raw Token) ⊛ ‵ (AnsweredT.the-row .own r (w ∷ []))) ⊛
+        raw (ensured 𝓤 H A run.ended (run.clauses 𝓤 H A at-mem exec) κs (session, rest) tt r)))) (id⊢ 𝓤 _) $ await ! tt $ pick ! (λ r.
+        split ! $ move ! (1 ∷ []) $
+        use1 W (some (λ (zs : Lasts run.ended κs (session, rest)). ‵ (lasts run.ended κs (session, rest) zs) ⊛
+        raw (fact 𝓤 (Said r (zs .1 .1 .0))))) (id⊢ 𝓤 _) $ pick ! (λ zs. split ! $ move ! (1 ∷ []) $ heard ! (Said r (zs .1 .1 .0)) (λ e.
+        fsplit ! $ drop ! $ fsplit ! $ drop ! $ fsplit ! $ move ! (1 ∷ []) $ drop ! $ fsplit ! $ move ! (1 ∷ []) $ feqL ! (λ l. move ! (1 ∷ []) $
+        split ! $ move ! (1 ∷ []) $ peeks ! (AnsweredT.the-row) (Is (AnsweredT.the-row)) (shows 𝓤 H A (AnsweredT.the-row)) r (w ∷ []) (λ is.
+        -- [the answer; the tokens; the last list; the replies; lent; the open borrow; obs; auth; the locals]
+        land ! (from ! (stop !)) (init ! 16 refl (LL.lawful AnsweredT.the-type AnsweredL.the-laws 𝓤 H A W .typed r _ is .0)) $
+        rewrite ! 16 (λ (u : Val). ‵ (fat fullShare AnsweredL.mir l₉ 0 u)) (ap only (AnsweredL.lowers .val-is r _ is)) refl $
+        rewrite ! 0 (λ (us : List Val). ‵ (AnsweredT.the-row .own r us)) (AnsweredL.lowers .val-is r _ is) refl $
+        peeks ! (AnsweredT.the-row) (Is (AnsweredT.the-row)) (shows 𝓤 H A (AnsweredT.the-row)) r (AnsweredL.lowered r ∷ []) (λ is′. move ! (1 ∷ []) $
+        split ! $ move ! (1 ∷ []) $ split ! $ move ! (1 ∷ []) $ split ! $ move ! (1 ∷ []) $ split ! $ move ! (1 ∷ []) $ split ! $
+        -- `handed_out`
+        move ! (6 ∷ 1 ∷ 8 ∷ []) $
+        use3 W (raw (out-contract 𝓤 H A at-mem exec .pre (to-out r (AnsweredL.lowered r)))) (goes-out r (AnsweredL.lowered r)) $
+        calls-at ! fm (out-contract 𝓤 H A at-mem exec) known-out (to-out r (AnsweredL.lowered r))
+        (and-then ! (load ! (from ! (stop !)) (look ! 19 refl)) (and-then ! (load ! (from ! (stop !)) (look ! 21 refl))
+        (no-more !))) (λ v.
+        use1 W (later (some (λ (d : RefT (List ℕ)). ((raw Token) ⊛ ‵ (ShrSlice (named 0) κ₆ u8 .own d (v ∷ []))) ⊛
+        raw (ensured 𝓤 H A out.ended (out.clauses 𝓤 H A at-mem exec) (κ₆, tt) (r, (replies, tt)) tt d)))) (id⊢ 𝓤 _) $ await ! tt $
+        pick ! (λ d. split ! $ move ! (1 ∷ []) $ use1 W (raw (fact 𝓤 (Handed-out r d))) (out-said r d) $ heard ! (Handed-out r d) (λ e₂. split ! $
+        move ! (1 ∷ []) $
         peeks ! (ShrSlice (named 0) κ₆ u8) (Is (ShrSlice (named 0) κ₆ u8)) (shows 𝓤 H A (ShrSlice (named 0) κ₆ u8)) d (v ∷ []) (λ is₂.
-        -- [the part; the replies' token; the other tokens; the last list; the session's cell; the open borrow; obs; auth; the locals]
+        -- [the part; the replies' token; κ₅; κ₄; κ₃; κ₂; κ₁; the last list; lent; the open borrow; obs; auth; the locals]
         land ! (from ! (stop !)) (init ! 18 refl (shr-slice-lawful 𝓤 H A W erased κ₆ u8 .typed d _ is₂ .0)) $
-        assigns ! (of-opd ! (load ! (from ! (fld ! refl (stop !))) (look-in ! 20 (sub ! 2 refl (whole !))))) (from ! (hop ! (look ! 36 refl) (stop !))) (store-raw ! 8 refl (LL.lawful SessionT.the-type SessionL.the-laws 𝓤 H A W .typed (r .session) _ (part-is r is′) .0)) $
-        nothing ! $ move ! (1 ∷ 0 ∷ []) $ fjoin ! $ owned ! AnsweredT.the-row (Is AnsweredT.the-row) (LL.makes AnsweredT.the-type AnsweredL.the-plain 𝓤 H A) r _ is′ $ fjoin ! $
-        use1 W (‵ (HandedT.the-row α .own (made r d) (mach (AnsweredL.lowered r) v ∷ []))) (makes 𝓤 H A W (AnsweredT.the-row ∷ ShrSlice (named 6) κ₆ u8 ∷ []) (Held r d) (AnsweredL.lowered r ∷ [], (v ∷ [], tt))) $
+        -- the timing is stored behind the borrow
+        assigns ! (of-opd ! (load ! (from ! (fld ! refl (stop !))) (look-in ! 20 (sub ! 3 refl (whole !))))) (from ! (hop ! (look ! 36 refl) (stop !)))
+        (store-raw ! 8 refl (LL.lawful TimingT.the-type TimingL.the-laws 𝓤 H A W .typed (r .timing) _ (timing-is r is′) .0)) $
+        -- what is returned is made
+        owned ! AnsweredT.the-row (Is AnsweredT.the-row) (LL.makes AnsweredT.the-type AnsweredL.the-plain 𝓤 H A) r _ is′ $ nothing ! $
+        move ! (2 ∷ 0 ∷ []) $ fjoin ! $ move ! (1 ∷ 0 ∷ []) $ fjoin ! $
+        use1 W (‵ (HandedT.the-row α .own (made r d) (mach (AnsweredL.lowered r) v ∷ [])))
+        (makes 𝓤 H A W (AnsweredT.the-row ∷ ShrSlice (named 6) κ₆ u8 ∷ []) (Held r d) (AnsweredL.lowered r ∷ [], (v ∷ [], tt))) $
         peeks ! (HandedT.the-row α) (Is (HandedT.the-row α)) (shows 𝓤 H A (HandedT.the-row α)) (made r d) (mach (AnsweredL.lowered r) v ∷ []) (λ is₃.
-        assigns ! (agg ! (and-then ! (load ! (from ! (stop !)) (look ! 20 refl)) (and-then ! (load ! (from ! (stop !)) (look ! 18 refl)) (no-more !)))) (from ! (stop !)) (init ! 38 refl (LL.lawful (HandedT.the-type α) (HandedL.the-laws α) 𝓤 H A W .typed (made r d) _ is₃ .0)) $
-        owned ! SessionT.the-row (Is SessionT.the-row) (LL.makes SessionT.the-type SessionL.the-plain 𝓤 H A) (r .session) _ (part-is r is′) $ move ! (9 ∷ 0 ∷ 10 ∷ 11 ∷ 12 ∷ []) $ closes ! tt SessionT.the-row (r .session) (SessionL.lowered (r .session) ∷ []) b o $
-        -- [obs; the borrow; its token; what is handed out; the replies' token; the other tokens; the last list; the locals]
-        returns ! (look ! 37 refl) $ forget ! 11 refl $ forget ! 13 refl $ forget ! 15 refl $ forget ! 17 refl $ forget ! 19 refl $ forget ! 21 refl $ forget ! 23 refl $ forget ! 25 refl $ forget ! 27 refl $ forget ! 29 refl $ forget ! 31 refl $ forget ! 33 refl $ forget ! 35 refl $ forget ! 37 refl $
-        move ! (37 ∷ 38 ∷ []) $ free1 ! $ move ! (35 ∷ 36 ∷ []) $ free1 ! $ move ! (33 ∷ 34 ∷ []) $ free1 ! $ move ! (31 ∷ 32 ∷ []) $ free1 ! $ move ! (29 ∷ 30 ∷ []) $ free1 ! $ move ! (27 ∷ 28 ∷ []) $ free1 ! $ move ! (25 ∷ 26 ∷ []) $ free1 ! $ move ! (23 ∷ 24 ∷ []) $ free1 ! $ move ! (21 ∷ 22 ∷ []) $ free1 ! $ move ! (19 ∷ 20 ∷ []) $ free1 ! $ move ! (17 ∷ 18 ∷ []) $ free1 ! $ move ! (15 ∷ 16 ∷ []) $ free1 ! $ move ! (13 ∷ 14 ∷ []) $ free1 ! $ move ! (11 ∷ 12 ∷ []) $ free1 ! $ free0 ! $
-        by ! (exits r d v (zs .1 .1 .0) e l e₂)))))))))))))))))))))))))))))
+        assigns ! (agg ! (and-then ! (load ! (from ! (stop !)) (look ! 20 refl)) (and-then ! (load ! (from ! (stop !)) (look ! 18 refl))
+        (no-more !))))
+        (from ! (stop !)) (init ! 38 refl (LL.lawful (HandedT.the-type α) (HandedL.the-laws α) 𝓤 H A W .typed (made r d) _ is₃ .0)) $
+        -- the borrow is closed
+        owned ! TimingT.the-row (Is TimingT.the-row) (LL.makes TimingT.the-type TimingL.the-plain 𝓤 H A) (r .timing) _ (timing-is r is′) $
+        move ! (9 ∷ 0 ∷ 10 ∷ 11 ∷ 12 ∷ []) $ closes ! tt TimingT.the-row (r .timing) (TimingL.lowered (r .timing) ∷ []) b o $
+        -- [obs; the borrow; its token; what is handed out; the replies' token; κ₅; κ₄; κ₃; κ₂; κ₁; the last list; the locals]
+        returns ! (look ! 37 refl) $ forget ! 37 refl $ forget ! 35 refl $ forget ! 33 refl $ forget ! 31 refl $ forget ! 29 refl $
+        forget ! 27 refl $ forget ! 25 refl $ forget ! 23 refl $ forget ! 21 refl $ forget ! 19 refl $ forget ! 17 refl $ forget ! 15 refl $
+        forget ! 13 refl $ forget ! 11 refl $ move ! (37 ∷ 38 ∷ []) $ free1 ! $ move ! (35 ∷ 36 ∷ []) $ free1 ! $ move ! (33 ∷ 34 ∷ []) $ free1 ! $
+        move ! (31 ∷ 32 ∷ []) $ free1 ! $ move ! (29 ∷ 30 ∷ []) $ free1 ! $ move ! (27 ∷ 28 ∷ []) $ free1 ! $ move ! (25 ∷ 26 ∷ []) $ free1 ! $
+        move ! (23 ∷ 24 ∷ []) $ free1 ! $ move ! (21 ∷ 22 ∷ []) $ free1 ! $ move ! (19 ∷ 20 ∷ []) $ free1 ! $ move ! (17 ∷ 18 ∷ []) $ free1 ! $
+        move ! (15 ∷ 16 ∷ []) $ free1 ! $ move ! (13 ∷ 14 ∷ []) $ free1 ! $ move ! (11 ∷ 12 ∷ []) $ free1 ! $ free0 ! $
+        move ! (0 ∷ 1 ∷ 2 ∷ 3 ∷ 9 ∷ 8 ∷ 7 ∷ 6 ∷ 5 ∷ 4 ∷ 10 ∷ []) $ by ! (exits r d v (zs .1 .1 .0) e l e₂)))))))))))))))))))))))))))))
 
 module _ {M : Type 1} (𝓤 : URA M) (H : Heap 𝓤) (A : Atoms 𝓤) (W : Given 𝓤 H A) (at-mem : Memory → SProp 𝓤) (exec : Routine → Fun 𝓤) where
-  walks : (C : Calls 𝓤 H) (Λ : Loops 𝓤 H) → FmC 𝓤 H (W .laws) C → Triple 𝓤 (C #core) (Core 𝓤 H A at-mem exec) → Triple 𝓤 (C #part) (Part 𝓤 H A at-mem exec) → Walks 𝓤 H A self.ended stayed (WpFn 𝓤 H C Λ code.function) (self.clauses 𝓤 H A at-mem exec)
-  walks C Λ fm known known-part = walked 𝓤 H A self.ended stayed (self.clauses 𝓤 H A at-mem exec) (WpFn 𝓤 H C Λ code.function)
-      (λ κs. (ptr-vals, ((λ d. AskL.lowered d ∷ []), (slice-vals, (slice-vals, (slice-vals, (slice-vals, (slice-vals, (slice-vals, tt))))))))) (λ κs. (mut-tells (named 0) (κs .0) SessionT.the-row, (AskL.lowers .val-is, (mut-slice-tells (named 1) (κs .1 .0) u8, (shr-slice-tells (named 2) (κs .1 .1 .0) u8, (shr-slice-tells (named 3) (κs .1 .1 .1 .0) u8, (shr-slice-tells (named 4) (κs .1 .1 .1 .1 .0) u8, (shr-slice-tells (named 5) (κs .1 .1 .1 .1 .1 .0) u8, (shr-slice-tells (named 6) (κs .1 .1 .1 .1 .1 .1 .0) u8, tt)))))))))
-      (λ κs qs bounds a g are. via 𝓤 _ (fst∗ 𝓤 _ (emp 𝓤)) (walk 𝓤 H A W at-mem exec (κs .0) (κs .1 .0) (κs .1 .1 .0) (κs .1 .1 .1 .0) (κs .1 .1 .1 .1 .0) (κs .1 .1 .1 .1 .1 .0) (κs .1 .1 .1 .1 .1 .1 .0) (qs .0) (qs .1 .0) (qs .1 .1 .0) (qs .1 .1 .1 .0) (qs .1 .1 .1 .1 .0) (qs .1 .1 .1 .1 .1 .0) (qs .1 .1 .1 .1 .1 .1 .0) (a .0 .ptr .0) (a .0 .ptr .1) (a .0 .name) (a .0 .now) (a .1 .0) (a .1 .1 .0) (a .1 .1 .1 .0) (a .1 .1 .1 .1 .0) (a .1 .1 .1 .1 .1 .0) (a .1 .1 .1 .1 .1 .1 .0) (a .1 .1 .1 .1 .1 .1 .1 .0) C Λ fm known known-part (are .1 .0) (are .1 .1 .0) (are .1 .1 .1 .0) (are .1 .1 .1 .1 .0) (are .1 .1 .1 .1 .1 .0) (are .1 .1 .1 .1 .1 .1 .0) (are .1 .1 .1 .1 .1 .1 .1 .0)))
+  walks : (C : Calls 𝓤 H) (Λ : Loops 𝓤 H) → FmC 𝓤 H (W .laws) C
+      → Triple 𝓤 (C #run) (run-contract 𝓤 H A at-mem exec) → Triple 𝓤 (C #out) (out-contract 𝓤 H A at-mem exec)
+      → Walks 𝓤 H A self.ended stayed (WpFn 𝓤 H C Λ code.function) (self.clauses 𝓤 H A at-mem exec)
+  walks C Λ fm known-run known-out = walked 𝓤 H A self.ended stayed (self.clauses 𝓤 H A at-mem exec) (WpFn 𝓤 H C Λ code.function)
+      (λ κs. (ptr-vals, ((λ d. AskL.lowered d ∷ []), (slice-vals, (slice-vals, (slice-vals, (slice-vals, (slice-vals, (slice-vals, tt)))))))))
+      (λ κs. (
+        mut-tells (named 0) (κs .0) TimingT.the-row,
+        (
+          AskL.lowers .val-is,
+          (
+            mut-slice-tells (named 1) (κs .1 .0) u8,
+            (
+              shr-slice-tells (named 2) (κs .1 .1 .0) u8,
+              (
+                shr-slice-tells (named 3) (κs .1 .1 .1 .0) u8,
+                (
+                  shr-slice-tells (named 4) (κs .1 .1 .1 .1 .0) u8,
+                  (
+                    shr-slice-tells (named 5) (κs .1 .1 .1 .1 .1 .0) u8,
+                    (
+                      shr-slice-tells (named 6) (κs .1 .1 .1 .1 .1 .1 .0) u8,
+                      tt,
+                    ),
+                  ),
+                ),
+              ),
+            ),
+          ),
+        ),
+      ))
+      (λ κs qs bounds a g are. via 𝓤 _ (fst∗ 𝓤 _ (emp 𝓤)) (walk 𝓤 H A W at-mem exec
+      (κs .0) (κs .1 .0) (κs .1 .1 .0) (κs .1 .1 .1 .0) (κs .1 .1 .1 .1 .0) (κs .1 .1 .1 .1 .1 .0) (κs .1 .1 .1 .1 .1 .1 .0)
+      (qs .0) (qs .1 .0) (qs .1 .1 .0) (qs .1 .1 .1 .0) (qs .1 .1 .1 .1 .0) (qs .1 .1 .1 .1 .1 .0) (qs .1 .1 .1 .1 .1 .1 .0)
+      (a .0 .ptr .0) (a .0 .ptr .1) (a .0 .name) (a .0 .now)
+      (a .1 .0) (a .1 .1 .0) (a .1 .1 .1 .0) (a .1 .1 .1 .1 .0) (a .1 .1 .1 .1 .1 .0) (a .1 .1 .1 .1 .1 .1 .0) (a .1 .1 .1 .1 .1 .1 .1 .0)
+      C Λ fm known-run known-out
+      (are .1 .0) (are .1 .1 .0) (are .1 .1 .1 .0) (are .1 .1 .1 .1 .0) (are .1 .1 .1 .1 .1 .0) (are .1 .1 .1 .1 .1 .1 .0) (are .1 .1 .1 .1 .1 .1 .1 .0)))
 
   all-go : AllGo 𝓤 H A W 7 (self.signature .params) (self.ended .kept) stayed
-  all-go = (goes-ref 𝓤 H A W 7 0 tt (plain (λ _. SessionT.the-row)), (goes-dropped 𝓤 H A W 7 (plain (λ _. AskT.the-row)) yes (λ κs x f. refl), (goes-gave-slice 𝓤 H A W 7 1 tt (plain (λ _. u8)), (goes-dropped 𝓤 H A W 7 (shrSliceOf (2 ∷ []) tt (plain (λ _. u8))) yes (λ κs x f. refl), (goes-dropped 𝓤 H A W 7 (shrSliceOf (3 ∷ []) tt (plain (λ _. u8))) yes (λ κs x f. refl), (goes-dropped 𝓤 H A W 7 (shrSliceOf (4 ∷ []) tt (plain (λ _. u8))) yes (λ κs x f. refl), (goes-dropped 𝓤 H A W 7 (shrSliceOf (5 ∷ []) tt (plain (λ _. u8))) yes (λ κs x f. refl), (goes-dropped 𝓤 H A W 7 (shrSliceOf (6 ∷ []) tt (plain (λ _. u8))) yes (λ κs x f. refl), tt))))))))
+  all-go = (
+    goes-ref 𝓤 H A W 7 0 tt (plain (λ _. TimingT.the-row)),
+    (
+      goes-dropped 𝓤 H A W 7 (plain (λ _. AskT.the-row)) yes (λ κs x f. refl),
+      (
+        goes-gave-slice 𝓤 H A W 7 1 tt (plain (λ _. u8)),
+        (
+          goes-dropped 𝓤 H A W 7 (shrSliceOf (2 ∷ []) tt (plain (λ _. u8))) yes (λ κs x f. refl),
+          (
+            goes-dropped 𝓤 H A W 7 (shrSliceOf (3 ∷ []) tt (plain (λ _. u8))) yes (λ κs x f. refl),
+            (
+              goes-dropped 𝓤 H A W 7 (shrSliceOf (4 ∷ []) tt (plain (λ _. u8))) yes (λ κs x f. refl),
+              (
+                goes-dropped 𝓤 H A W 7 (shrSliceOf (5 ∷ []) tt (plain (λ _. u8))) yes (λ κs x f. refl),
+                (
+                  goes-dropped 𝓤 H A W 7 (shrSliceOf (6 ∷ []) tt (plain (λ _. u8))) yes (λ κs x f. refl),
+                  tt,
+                ),
+              ),
+            ),
+          ),
+        ),
+      ),
+    ),
+  )
 
-meets : {M : Type 1} (𝓤 : URA M) (H : Heap 𝓤) (A : Atoms 𝓤) → Given 𝓤 H A → (at-mem : Memory → SProp 𝓤) (exec : Routine → Fun 𝓤) (𝓣 : Tables 𝓤 H) → Triple 𝓤 (𝓣 .C #core) (Core 𝓤 H A at-mem exec) → Triple 𝓤 (𝓣 .C #part) (Part 𝓤 H A at-mem exec)
+meets : {M : Type 1} (𝓤 : URA M) (H : Heap 𝓤) (A : Atoms 𝓤) → Given 𝓤 H A → (at-mem : Memory → SProp 𝓤) (exec : Routine → Fun 𝓤) (𝓣 : Tables 𝓤 H)
+    → Triple 𝓤 (𝓣 .C #run) (run-contract 𝓤 H A at-mem exec) → Triple 𝓤 (𝓣 .C #out) (out-contract 𝓤 H A at-mem exec)
     → Meets 𝓤 H A self.signature (WpFn 𝓤 H (𝓣 .C) (𝓣 .Λ) code.function) (self.spec 𝓤 H A at-mem exec)
-meets 𝓤 H A W at-mem exec 𝓣 known known-part =
+meets 𝓤 H A W at-mem exec 𝓣 known-run known-out =
     walk-meets 𝓤 H A self.ended stayed W (all-go 𝓤 H A W at-mem exec) (self.clauses 𝓤 H A at-mem exec)
-    (WpFn 𝓤 H (𝓣 .C) (𝓣 .Λ) code.function) (WpFn-mono 𝓤 H (W .laws) 𝓣 code.function) (walks 𝓤 H A W at-mem exec (𝓣 .C) (𝓣 .Λ) (fmOf 𝓤 H (W .laws) 𝓣) known known-part)
+    (WpFn 𝓤 H (𝓣 .C) (𝓣 .Λ) code.function) (WpFn-mono 𝓤 H (W .laws) 𝓣 code.function)
+    (walks 𝓤 H A W at-mem exec (𝓣 .C) (𝓣 .Λ) (fmOf 𝓤 H (W .laws) 𝓣) known-run known-out)
 
 pub call-spec : {M : Type 1} → stated.statement M
 unfolding code.routine tablesOf
@@ -232,5 +401,7 @@ call-spec 𝓤 H 𝓜 𝓖 𝓡 =
     entered 𝓤 H (tripleOf 𝓤 H (𝓖 .A) self.signature (self.spec 𝓤 H (𝓖 .A) (𝓜 .mem) (𝓡 .run)))
     (tables 𝓤 H 𝓜 𝓡 code.env .C) (tables 𝓤 H 𝓜 𝓡 code.env .Λ) #self code.function (code.unfolded 𝓤 H 𝓜 𝓡)
     (meets 𝓤 H (𝓖 .A) (givenOf 𝓤 H 𝓜 𝓖) (𝓜 .mem) (𝓡 .run) (tablesOf 𝓤 H 𝓜 (tables 𝓤 H 𝓜 𝓡 code.env))
-    (cited 𝓤 H (Core 𝓤 H (𝓖 .A) (𝓜 .mem) (𝓡 .run)) 𝓜 𝓡 code.env #core core-def.routine code.calls-calls·run (core-thm.met 𝓤 H 𝓜 𝓖 𝓡))
-    (cited 𝓤 H (Part 𝓤 H (𝓖 .A) (𝓜 .mem) (𝓡 .run)) 𝓜 𝓡 code.env #part part-def.routine code.calls-calls·handed-out (part-thm.met 𝓤 H 𝓜 𝓖 𝓡)))
+    (cited 𝓤 H (run-contract 𝓤 H (𝓖 .A) (𝓜 .mem) (𝓡 .run)) 𝓜 𝓡 code.env #run run-def.routine
+    code.calls-calls·run (run-thm.met 𝓤 H 𝓜 𝓖 𝓡))
+    (cited 𝓤 H (out-contract 𝓤 H (𝓖 .A) (𝓜 .mem) (𝓡 .run)) 𝓜 𝓡 code.env #out out-def.routine
+    code.calls-calls·handed-out (out-thm.met 𝓤 H 𝓜 𝓖 𝓡)))

@@ -1,11 +1,11 @@
 -- `calls::run` meets its contract: one law for each way that a call goes.
-use borrow.Author.Needs.{needs}
-use mathlib.Core.Path.{sym, _∙_}
-use Rattle.requests.proofs.Callers.{stands}
 use Rattle.calls.specs.Meaning.{lentOf}
-use Rattle.calls.proofs.Running.{Given, hears, turned-away, turned-by-events, carried-out}
+use Rattle.calls.proofs.Running.{Given, turned-away, turned-by-events, carried-out}
+use borrow.Author.Needs.{needs}
 use Rattle.calls.proofs.run.Statement.{statement}
 use Rattle.calls.proofs.run.Tie as tie
+use Rattle.calls.proofs.run.Reads as reads
+use Rattle.calls.proofs.refused.Reads as refused-reads
 
 abbrev given : tie.Start → Given
 given t =
@@ -19,26 +19,18 @@ given t =
       lent = lentOf (x .request .now) (x .events .now) (x .replies .now);
     }
 
--- What was given, seen from behind refusals 1 to 9.
-abbrev behind : tie.Else1 → Given
-behind c = given (c .before .before .before .before .before .before .before .before)
+-- What was given, seen from behind `prepare`.
+abbrev behind : tie.After-prepare → Given
+behind c = given (c .before .before .before .before .before .before .before)
 
-refusal-requires : tie.Need-refusal-requires
-refusal-requires c κs = search needs
+prepare-requires : tie.Need-prepare-requires
+prepare-requires c κs = search needs
 
 refused-requires : tie.Need-refused-requires
 refused-requires c κs = search needs
 
 returns : tie.Need-returns
-returns c =
-    let tested = c .before .before in
-    rw (c .refused .ensures) (turned-away (given (tested .before .before .before .before .before .before .before)) (tested .refusal .ensures) (c .before .if1 .taken))
-
-service-id-requires : tie.Need-service-id-requires
-service-id-requires c κs = search needs
-
-sub-function-requires : tie.Need-sub-function-requires
-sub-function-requires c κs = search needs
+returns c = let prepared = c .before .before in rw (c .refused .ensures) (turned-away (behind prepared) (prepared .prepare .ensures) (c .before .if1 .taken))
 
 exchange-requires : tie.Need-exchange-requires
 exchange-requires c κs = search needs
@@ -53,15 +45,14 @@ returns-2 : tie.Need-returns-2
 returns-2 c =
     let judged = c .before .before in
     let exchanged = judged .before in
-    let sub = exchanged .before in
-    let sid = sub .before in
-    let passed = sid .before in
-    let g = behind passed in
-    let heard = hears g (sub .sub-function .result) (sid .service-id .ensures) (sub .sub-function .ensures) (exchanged .exchange .ensures) in
-    rw (c .refused2 .ensures) (turned-by-events g (passed .before .refusal .ensures) (passed .if1 .left) heard (sym (judged .is-refused .ensures (g .lent .replies)) ∙ c .before .if2 .taken))
+    let passed = exchanged .before in
+    let prepared = passed .before in
+    rw (c .refused2 .ensures)
+    (turned-by-events (behind prepared) (prepared .prepare .ensures) (passed .if1 .left) (exchanged .exchange .ensures) (judged .is-refused .ensures)
+    (c .before .if2 .taken))
 
-write-request-requires : tie.Need-write-request-requires
-write-request-requires c κs = search needs
+write-requires : tie.Need-write-requires
+write-requires c κs = search needs
 
 concluded-requires : tie.Need-concluded-requires
 concluded-requires c κs = search needs
@@ -75,29 +66,23 @@ returns-3 c =
     let kept = wrote .before .before in
     let judged = kept .before in
     let exchanged = judged .before in
-    let sub = exchanged .before in
-    let sid = sub .before in
-    let passed = sid .before in
-    let g = behind passed in
-    let told = passed .before .refusal .ensures in
-    let heard = hears g (sub .sub-function .result) (sid .service-id .ensures) (sub .sub-function .ensures) (exchanged .exchange .ensures) in
-    let written = stands (wrote .write-request .ensures) told (passed .if1 .left) .1 in
-    carried-out g told (passed .if1 .left) heard (sym (judged .is-refused .ensures (g .lent .replies)) ∙ kept .if2 .left) written (c .concluded .ensures)
+    let passed = exchanged .before in
+    let prepared = passed .before in
+    carried-out (behind prepared) (prepared .prepare .ensures) (passed .if1 .left) (exchanged .exchange .ensures) (judged .is-refused .ensures)
+    (kept .if2 .left) (wrote .write .ensures) (c .concluded .ensures)
 
 pub run-spec : {M : Type 1} → statement M
 run-spec =
     tie.close
     (tie.spec
-    refusal-requires
+    prepare-requires
     refused-requires
     returns
-    service-id-requires
-    sub-function-requires
     exchange-requires
     is-refused-requires
     refused-requires-2
     returns-2
-    write-request-requires
+    write-requires
     concluded-requires
     same-length
     returns-3)

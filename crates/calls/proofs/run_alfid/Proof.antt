@@ -1,12 +1,15 @@
 -- `calls::run_alfid` meets its contract: a width refuses, or the fields are bytes, or the call takes none.
-use borrow.Author.Needs.{needs}
 use borrow.Author.Tests.{not-true, not-false}
-use mathlib.Core.Bool.{true}
-use mathlib.Core.Path.{_≡_, sym, _∙_}
-use Rattle.calls.specs.Meaning.{lentOf, takesMemory}
+use mathlib.Core.Bool.{Bool, true}
+use mathlib.Core.Path.{_≡_, sym, ap, _∙_}
+use Rattle.requests.specs.declared.rows.Row.{Row}
+use Rattle.requests.specs.Rows.{rowOf, takesMemory}
+use Rattle.calls.specs.Meaning.{lentOf}
 use Rattle.calls.proofs.Widths.{Given, without, address-refused, size-refused, as-bytes}
+use borrow.Author.Needs.{needs}
 use Rattle.calls.proofs.run_alfid.Statement.{statement}
 use Rattle.calls.proofs.run_alfid.Tie as tie
+use Rattle.calls.proofs.run_alfid.Reads as reads
 
 abbrev given : tie.Start → Given
 given t =
@@ -22,12 +25,18 @@ given t =
       lent = lentOf (x .request .now) (x .events .now) (x .replies .now);
     }
 
--- What was given, seen from a call that takes both; and that it does.
-abbrev behind : tie.Else1 → Given
+-- What was given, seen from behind the question whether the call takes both; and the answer.
+abbrev behind : tie.After-takes-memory → Given
 behind c = given (c .before .before .before .before .before .before)
 
-takes : (c : tie.Else1) → takesMemory (behind c .ask .call) ≡ true
-takes c = sym (c .before .takes-memory .ensures) ∙ not-false _ (c .if1 .left)
+answered : (c : tie.After-takes-memory) → c .takes-memory .result ≡ takesMemory (rowOf (behind c .ask .call) .takes)
+answered c = c .takes-memory .ensures ∙ ap (λ (r : Row). takesMemory (r .takes)) (c .before .row-of .ensures)
+
+takes : (c : tie.Else1) → takesMemory (rowOf (behind (c .before) .ask .call) .takes) ≡ true
+takes c = sym (answered (c .before)) ∙ not-false _ (c .if1 .left)
+
+row-of-requires : tie.Need-row-of-requires
+row-of-requires c κs = search needs
 
 takes-memory-requires : tie.Need-takes-memory-requires
 takes-memory-requires c κs = search needs
@@ -46,9 +55,10 @@ same-length c = search needs
 
 returns : tie.Need-returns
 returns c =
-    let neither = c .before .before .before .before .before .before in
+    let at-before = c .before .before .before .before .before in
+    let neither = at-before .before in
     let asked = neither .before in
-    without (given (asked .before .before .before .before .before)) (sym (asked .takes-memory .ensures) ∙ not-true _ (neither .if1 .taken)) (c .before .before .run .ensures)
+    without (behind asked) (sym (answered asked) ∙ not-true _ (neither .if1 .taken)) (c .before .before .run .ensures)
 
 memory-bytes-requires : tie.Need-memory-bytes-requires
 memory-bytes-requires c κs = search needs
@@ -60,7 +70,7 @@ returns-2 : tie.Need-returns-2
 returns-2 c =
     let address = c .before .before in
     let both = address .before in
-    rw (c .refused .ensures) (address-refused (behind both) (takes both) (address .memory-bytes .ensures) (c .before .if2 .taken))
+    rw (c .refused .ensures) (address-refused (behind (both .before)) (takes both) (address .memory-bytes .ensures) (c .before .if2 .taken))
 
 memory-bytes-requires-2 : tie.Need-memory-bytes-requires-2
 memory-bytes-requires-2 c κs = search needs
@@ -73,7 +83,9 @@ returns-3 c =
     let size = c .before .before in
     let passed = size .before in
     let both = passed .before .before in
-    rw (c .refused2 .ensures) (size-refused (behind both) (takes both) (passed .before .memory-bytes .ensures) (passed .if2 .left) (size .memory-bytes2 .ensures) (c .before .if3 .taken))
+    rw (c .refused2 .ensures)
+    (size-refused (behind (both .before)) (takes both) (passed .before .memory-bytes .ensures) (passed .if2 .left) (size .memory-bytes2 .ensures)
+    (c .before .if3 .taken))
 
 slice-aggregate-part : tie.Need-slice-aggregate-part
 slice-aggregate-part c = search needs
@@ -95,18 +107,21 @@ same-length-2 c = search needs
 
 returns-4 : tie.Need-returns-4
 returns-4 c =
-    let second = c .before .before .before .before in
+    let at-before = c .before .before .before in
+    let second = at-before .before in
     let first = second .before .before in
     let size-passed = first .before .before .before .before in
     let size = size-passed .before in
     let passed = size .before in
     let both = passed .before .before in
-    as-bytes (behind both) (takes both) (passed .before .memory-bytes .ensures) (passed .if2 .left) (size .memory-bytes2 .ensures) (size-passed .if3 .left) (first .part .ensures) (second .part2 .ensures) (c .before .before .run2 .ensures)
+    as-bytes (behind (both .before)) (takes both) (passed .before .memory-bytes .ensures) (passed .if2 .left) (size .memory-bytes2 .ensures)
+    (size-passed .if3 .left) (first .part .ensures) (second .part2 .ensures) (c .before .before .run2 .ensures)
 
 pub run-alfid-spec : {M : Type 1} → statement M
 run-alfid-spec =
     tie.close
     (tie.spec
+    row-of-requires
     takes-memory-requires
     slice-aggregate-run
     slice-aggregate-run-2

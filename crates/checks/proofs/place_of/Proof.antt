@@ -27,41 +27,29 @@ enum-told-6 c = search needs
 enum-told-7 : tie.Need-enum-told-7
 enum-told-7 c = search needs
 
-enum-told-8 : tie.Need-enum-told-8
-enum-told-8 c = search needs
-
-enum-told-9 : tie.Need-enum-told-9
-enum-told-9 c = search needs
-
 returns : tie.Need-returns
 returns c = search needs
 
 returns-2 : tie.Need-returns-2
-returns-2 c = rw (c .enum-told .given .1)
+returns-2 c = rw ((c .enum-told .given .1))
 
 returns-3 : tie.Need-returns-3
-returns-3 c = rw (c .enum-told2 .given .1)
+returns-3 c = rw ((c .enum-told2 .given .1))
 
 returns-4 : tie.Need-returns-4
-returns-4 c = rw (c .enum-told3 .given .1)
+returns-4 c = rw ((c .enum-told3 .given .1))
 
 returns-5 : tie.Need-returns-5
-returns-5 c = rw (c .enum-told4 .given .1)
+returns-5 c = rw ((c .enum-told4 .given .1))
 
 returns-6 : tie.Need-returns-6
-returns-6 c = rw (c .enum-told5 .given .1)
+returns-6 c = rw ((c .enum-told5 .given .1))
 
 returns-7 : tie.Need-returns-7
-returns-7 c = rw (c .enum-told6 .given .1)
+returns-7 c = rw ((c .enum-told6 .given .1))
 
 returns-8 : tie.Need-returns-8
-returns-8 c = rw (c .enum-told7 .given .1)
-
-returns-9 : tie.Need-returns-9
-returns-9 c = rw (c .enum-told8 .given .1)
-
-returns-10 : tie.Need-returns-10
-returns-10 c = rw (c .enum-told9 .given .1)
+returns-8 c = rw ((c .enum-told7 .given .1))
 
 pub place-of-spec : {M : Type 1} → statement M
 place-of-spec =
@@ -75,8 +63,6 @@ place-of-spec =
     enum-told-5
     enum-told-6
     enum-told-7
-    enum-told-8
-    enum-told-9
     returns
     returns-2
     returns-3
@@ -84,6 +70,4 @@ place-of-spec =
     returns-5
     returns-6
     returns-7
-    returns-8
-    returns-9
-    returns-10)
+    returns-8)

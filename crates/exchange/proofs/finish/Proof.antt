@@ -4,6 +4,7 @@ use mathlib.Core.Path.{sym, _∙_}
 use borrow.Author.Needs.{needs}
 use Rattle.exchange.proofs.finish.Statement.{statement}
 use Rattle.exchange.proofs.finish.Tie as tie
+use Rattle.exchange.proofs.finish.Reads as reads
 
 cast-p2 : tie.Need-cast-p2
 cast-p2 c = search needs
@@ -15,21 +16,22 @@ suppresses-requires : tie.Need-suppresses-requires
 suppresses-requires c κs = search needs
 
 returns : tie.Need-returns
-returns c = λ r. rw
-    (sym ((c .before .before .before .before .waits .ensures) r) ∙ (c .before .before .before .if1 .taken), sym (c .before .before .suppresses .ensures) ∙ (c .before .if2 .taken))
-    (omega arith)
+returns c =
+    let at-if = c .before .before .before in
+    let at-waits = at-if .before in
+    rw (sym (at-waits .waits .ensures) ∙ (at-if .if1 .taken), sym (c .before .before .suppresses .ensures) ∙ (c .before .if2 .taken)) (omega arith)
 
 returns-2 : tie.Need-returns-2
-returns-2 c = λ r. rw
-    (sym ((c .before .before .before .before .waits .ensures) r) ∙ (c .before .before .before .if1 .taken), sym (c .before .before .suppresses .ensures) ∙ (c .before .if2 .taken))
-    (omega arith)
+returns-2 c =
+    let at-if = c .before .before .before in
+    let at-waits = at-if .before in
+    rw (sym (at-waits .waits .ensures) ∙ (at-if .if1 .taken), sym (c .before .before .suppresses .ensures) ∙ (c .before .if2 .taken)) (omega arith)
 
 returns-3 : tie.Need-returns-3
-returns-3 c = λ r. rw
-    (sym ((c .before .before .before .waits .ensures) r) ∙ (c .before .before .if1 .taken), sym (c .before .suppresses .ensures) ∙ (c .if2 .left))
+returns-3 c = search needs
 
 returns-4 : tie.Need-returns-4
-returns-4 c = λ r. rw (sym ((c .before .waits .ensures) r) ∙ (c .if1 .left))
+returns-4 c = search needs
 
 pub finish-spec : {M : Type 1} → statement M
 finish-spec =

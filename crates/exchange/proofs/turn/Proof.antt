@@ -1,14 +1,15 @@
 -- `exchange::turn` meets its contract.
-use borrow.Author.Needs.{needs}
 use Rattle.exchange.proofs.Turning.{turns-notice, turns-reply, turns-idle, turns-ended, turns-failed}
+use borrow.Author.Needs.{needs}
 use Rattle.exchange.proofs.turn.Statement.{statement}
 use Rattle.exchange.proofs.turn.Tie as tie
+use Rattle.exchange.proofs.turn.Reads as reads
 
 cast-time : tie.Need-cast-time
 cast-time c = search needs
 
-cast-star : tie.Need-cast-star
-cast-star c = search needs
+counted-requires : tie.Need-counted-requires
+counted-requires c κs = search needs
 
 named-requires : tie.Need-named-requires
 named-requires c κs = search needs
@@ -19,12 +20,23 @@ look-requires c κs = search needs
 enum-told : tie.Need-enum-told
 enum-told c = search needs
 
-add-t14 : tie.Need-add-t14
-add-t14 c = search needs
+counted-requires-2 : tie.Need-counted-requires-2
+counted-requires-2 c κs = search needs
+
+cast-t18 : tie.Need-cast-t18
+cast-t18 c = search needs
+
+add-t19 : tie.Need-add-t19
+add-t19 c = search needs
 
 returns : tie.Need-returns
-returns c = turns-notice (c .before .before .before .before .if1 .taken) (c .before .before .before .named .ensures)
-    (c .before .before .look .ensures) (c .enum-told .given .1)
+returns c =
+    let at-look = c .before .before .before .before in
+    let at-named = at-look .before in
+    let at-if = at-named .before in
+    let at-counted = at-if .before in
+    turns-notice (at-counted .counted .ensures) (at-if .if1 .taken) (at-named .named .ensures) (at-look .look .ensures)
+    (c .before .before .enum-told .given .1) (c .before .counted2 .ensures)
 
 enum-known-outcome : tie.Need-enum-known-outcome
 enum-known-outcome c = search needs
@@ -33,29 +45,35 @@ finish-requires : tie.Need-finish-requires
 finish-requires c κs = search needs
 
 returns-2 : tie.Need-returns-2
-returns-2 c = turns-reply (c .before .before .before .before .before .before .if1 .taken) (c .before .before .before .before .before .named .ensures)
-    (c .before .before .before .before .look .ensures) (c .before .before .outcome .given .1)
-    ((c .finish .ensures) (c .before .before .before .before .before .before .before .before .before .before .args .replies .now))
+returns-2 c =
+    let at-look = c .before .before .before .before in
+    let at-named = at-look .before in
+    let at-if = at-named .before in
+    let at-counted = at-if .before in
+    turns-reply (at-counted .counted .ensures) (at-if .if1 .taken) (at-named .named .ensures) (at-look .look .ensures)
+    (c .before .before .outcome .given .1) (c .finish .ensures)
 
 returns-3 : tie.Need-returns-3
-returns-3 c = turns-idle (c .before .if1 .left) (c .if2 .taken)
+returns-3 c = turns-idle ((c .before .before .counted .ensures)) ((c .before .if1 .left)) ((c .if2 .taken))
 
 returns-4 : tie.Need-returns-4
-returns-4 c = turns-ended (c .before .before .if1 .left) (c .before .if2 .left) (c .if3 .taken)
+returns-4 c = turns-ended ((c .before .before .before .counted .ensures)) ((c .before .before .if1 .left)) ((c .before .if2 .left)) ((c .if3 .taken))
 
 returns-5 : tie.Need-returns-5
-returns-5 c = turns-failed (c .before .before .if1 .left) (c .before .if2 .left) (c .if3 .left)
+returns-5 c = turns-failed ((c .before .before .before .counted .ensures)) ((c .before .before .if1 .left)) ((c .before .if2 .left)) ((c .if3 .left))
 
 pub turn-spec : {M : Type 1} → statement M
 turn-spec =
     tie.close
     (tie.spec
     cast-time
-    cast-star
+    counted-requires
     named-requires
     look-requires
     enum-told
-    add-t14
+    counted-requires-2
+    cast-t18
+    add-t19
     returns
     enum-known-outcome
     finish-requires

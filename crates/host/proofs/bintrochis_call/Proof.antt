@@ -50,11 +50,8 @@ part-requires-2 c κs = search needs
 part-requires-3 : tie.Need-part-requires-3
 part-requires-3 c κs = search needs
 
-sent-length-requires : tie.Need-sent-length-requires
-sent-length-requires c κs = search needs
-
-run-requires : tie.Need-run-requires
-run-requires c κs = search needs
+in-session-requires : tie.Need-in-session-requires
+in-session-requires c κs = search needs
 
 numbers-requires : tie.Need-numbers-requires
 numbers-requires c κs = search needs
@@ -65,8 +62,7 @@ same-length c = search needs
 returns-3 : tie.Need-returns-3
 returns-3 c =
     let ran = c .before .before .before in
-    let sent = ran .before .before in
-    let parts = sent .before in
+    let parts = ran .before .before in
     let fit = parts .before .before .before in
     let told = fit .before .before .before in
     let ask = told .before .before in
@@ -78,8 +74,7 @@ returns-3 c =
     (parts .before .part2 .ensures)
     (parts .part3 .ensures)
     (asks .1)
-    (ran .run .ensures)
-    (sent .sent-length .ensures)
+    (ran .in-session .ensures)
     (c .numbers .ensures)
 
 pub bintrochis-call-spec : {M : Type 1} → statement M
@@ -97,8 +92,7 @@ bintrochis-call-spec =
     part-requires
     part-requires-2
     part-requires-3
-    sent-length-requires
-    run-requires
+    in-session-requires
     numbers-requires
     same-length
     returns-3)

@@ -3,7 +3,6 @@ use mathlib.Core.Path.{_∙_}
 use lib.ListN.{length}
 use borrow.Author.Tests.{not-true, not-false}
 use Rattle.rules.specs.Calls.{alfid}
-use Rattle.host.proofs.Lengths.{wide}
 use Rattle.host.proofs.Serving.{told-of, unsuited, suited, asks-none, asks-one}
 use borrow.Author.Needs.{needs}
 use Rattle.host.proofs.bintrochis_call_alfid.Statement.{statement}
@@ -54,9 +53,6 @@ returns-3 c =
     (rw (← has .ensures, not-false (has .result) (one-of-four .if1 .left))
     (suited (length d) (made .fields .ensures) (asks .0) (c .before .fits2 .ensures) ∙ not-true _ (c .if2 .taken)))
 
-sent-length-requires : tie.Need-sent-length-requires
-sent-length-requires c κs = search needs
-
 run-alfid-requires : tie.Need-run-alfid-requires
 run-alfid-requires c κs = search needs
 
@@ -69,8 +65,7 @@ same-length c = search needs
 returns-4 : tie.Need-returns-4
 returns-4 c =
     let ran = c .before .before .before in
-    let sent = ran .before .before in
-    let fit = sent .before in
+    let fit = ran .before .before in
     let told = fit .before .before .before in
     let ask = told .before .before in
     let one-of-four = ask .before in
@@ -82,7 +77,6 @@ returns-4 c =
     asks-one (alfid (x .address) (x .address-width)) (alfid (x .size) (x .size-width)) d
     (asks .1)
     (ran .run-alfid .ensures)
-    (sent .sent-length .ensures ∙ wide (told .ask .given .0 .0) (x .address) (x .address-width) (x .size) (x .size-width) d)
     (rw (← has .ensures, not-false (has .result) (one-of-four .if1 .left))
     (suited (length d) (made .fields .ensures) (asks .0) (fit .before .fits2 .ensures) ∙ not-false _ (fit .if2 .left)))
     (c .numbers .ensures)
@@ -100,7 +94,6 @@ bintrochis-call-alfid-spec =
     returns-2
     fits-requires
     returns-3
-    sent-length-requires
     run-alfid-requires
     numbers-requires
     same-length

@@ -3,12 +3,6 @@ use borrow.Author.Needs.{needs}
 use Rattle.requests.proofs.opening.Statement.{statement}
 use Rattle.requests.proofs.opening.Tie as tie
 
-service-id-requires : tie.Need-service-id-requires
-service-id-requires c κs = search needs
-
-sub-function-requires : tie.Need-sub-function-requires
-sub-function-requires c κs = search needs
-
 enum-told : tie.Need-enum-told
 enum-told c = search needs
 
@@ -34,41 +28,27 @@ enum-known-numbers-4 : tie.Need-enum-known-numbers-4
 enum-known-numbers-4 c = search needs
 
 returns : tie.Need-returns
-returns c =
-    let sub = c .before .before .before .before in
-    rw (← sub .before .service-id .ensures, ← sub .sub-function .ensures, c .before .before .enum-told .given .1, c .enum-told2 .given .1)
+returns c = rw ((c .before .before .enum-told .given .1), (c .enum-told2 .given .1))
 
 returns-2 : tie.Need-returns-2
-returns-2 c =
-    let sub = c .before .before .before .before .before in
-    rw (← sub .before .service-id .ensures, ← sub .sub-function .ensures, c .before .before .before .enum-told .given .1, c .before .numbers .given .1)
+returns-2 c = rw ((c .before .before .before .enum-told .given .1), (c .before .numbers .given .1))
 
 returns-3 : tie.Need-returns-3
-returns-3 c =
-    let sub = c .before .before .before .before .before in
-    rw (← sub .before .service-id .ensures, ← sub .sub-function .ensures, c .before .before .before .enum-told .given .1, c .before .numbers2 .given .1)
+returns-3 c = rw ((c .before .before .before .enum-told .given .1), (c .before .numbers2 .given .1))
 
 returns-4 : tie.Need-returns-4
-returns-4 c =
-    let sub = c .before .before .before .before .before in
-    rw (← sub .before .service-id .ensures, ← sub .sub-function .ensures, c .before .before .before .sub .given .1, c .enum-told3 .given .1)
+returns-4 c = rw ((c .before .before .before .sub .given .1), (c .enum-told3 .given .1))
 
 returns-5 : tie.Need-returns-5
-returns-5 c =
-    let sub = c .before .before .before .before .before .before in
-    rw (← sub .before .service-id .ensures, ← sub .sub-function .ensures, c .before .before .before .before .sub .given .1, c .before .numbers3 .given .1)
+returns-5 c = rw ((c .before .before .before .before .sub .given .1), (c .before .numbers3 .given .1))
 
 returns-6 : tie.Need-returns-6
-returns-6 c =
-    let sub = c .before .before .before .before .before .before in
-    rw (← sub .before .service-id .ensures, ← sub .sub-function .ensures, c .before .before .before .before .sub .given .1, c .before .numbers4 .given .1)
+returns-6 c = rw ((c .before .before .before .before .sub .given .1), (c .before .numbers4 .given .1))
 
 pub opening-spec : {M : Type 1} → statement M
 opening-spec =
     tie.close
     (tie.spec
-    service-id-requires
-    sub-function-requires
     enum-told
     enum-told-2
     enum-known-numbers

@@ -1,7 +1,6 @@
 -- `checks::handed::hands_out` meets its contract.
 use borrow.Author.Needs.{needs}
 use borrow.Author.Tests.{eq-eqb, ne-eqb}
-use Rattle.checks.proofs.Handing.{all-behind}
 use Rattle.checks.proofs.handed.hands_out.Statement.{statement}
 use Rattle.checks.proofs.handed.hands_out.Tie as tie
 
@@ -66,95 +65,67 @@ enum-told-13 : tie.Need-enum-told-13
 enum-told-13 c = search needs
 
 returns : tie.Need-returns
-returns c = record {
-  means = λ at a s present d. rw (
-    (c .before .before .call .given .1),
-    ← (c .head .ensures),
-  ) (all-behind (c .head .result) at ((c .before .before .before .before .before .args .reply .now)));
-}
+returns c = rw (
+  (c .before .before .call .given .1),
+  (c .head .ensures),
+)
 
 returns-2 : tie.Need-returns-2
-returns-2 c = record { means = λ at a s present d. rw ((c .before .enum-told .given .1), (c .only .ensures)) }
+returns-2 c = rw ((c .before .enum-told .given .1), (c .only .ensures))
 
 returns-3 : tie.Need-returns-3
-returns-3 c = record { means = λ at a s present d. rw ((c .before .enum-told2 .given .1), (c .only2 .ensures)) }
+returns-3 c = rw ((c .before .enum-told2 .given .1), (c .only2 .ensures))
 
 returns-4 : tie.Need-returns-4
-returns-4 c = record {
-  means = λ at a s present d. rw (
-    (c .before .before .call2 .given .1),
-    eq-eqb _ 1 (c .if1 .taken),
-  ) (all-behind 2 at ((c .before .before .before .before .before .args .reply .now)));
-}
+returns-4 c = rw (
+  (c .before .before .call2 .given .1),
+  eq-eqb _ 1 (c .if1 .taken),
+)
 
 returns-5 : tie.Need-returns-5
-returns-5 c = record {
-  means = λ at a s present d. rw (
-    (c .before .before .call2 .given .1),
-    ne-eqb _ 1 (c .if1 .left),
-  );
-}
+returns-5 c = rw (
+  (c .before .before .call2 .given .1),
+  ne-eqb _ 1 (c .if1 .left),
+)
 
 returns-6 : tie.Need-returns-6
-returns-6 c = record { means = λ at a s present d. rw (c .enum-told3 .given .1) }
+returns-6 c = rw (c .enum-told3 .given .1)
 
 returns-7 : tie.Need-returns-7
-returns-7 c = record {
-  means = λ at a s present d. rw (c .enum-told4 .given .1)
-      (all-behind 1 at ((c .before .before .before .args .reply .now)));
-}
+returns-7 c = rw (c .enum-told4 .given .1)
 
 returns-8 : tie.Need-returns-8
-returns-8 c = record {
-  means = λ at a s present d. rw (c .enum-told5 .given .1)
-      (all-behind 1 at ((c .before .before .before .args .reply .now)));
-}
+returns-8 c = rw (c .enum-told5 .given .1)
 
 returns-9 : tie.Need-returns-9
-returns-9 c = record {
-  means = λ at a s present d. rw (c .enum-told6 .given .1)
-      (all-behind 3 at ((c .before .before .before .args .reply .now)));
-}
+returns-9 c = rw (c .enum-told6 .given .1)
 
 returns-10 : tie.Need-returns-10
-returns-10 c = record { means = λ at a s present d. rw (c .enum-told7 .given .1) }
+returns-10 c = rw (c .enum-told7 .given .1)
 
 returns-11 : tie.Need-returns-11
-returns-11 c = record { means = λ at a s present d. rw (c .enum-told8 .given .1) }
+returns-11 c = rw (c .enum-told8 .given .1)
 
 returns-12 : tie.Need-returns-12
-returns-12 c = record {
-  means = λ at a s present d. rw (c .enum-told9 .given .1)
-      (all-behind 4 at ((c .before .before .before .args .reply .now)));
-}
+returns-12 c = rw (c .enum-told9 .given .1)
 
 returns-13 : tie.Need-returns-13
-returns-13 c = record {
-  means = λ at a s present d. rw (
-    (c .before .enum-told10 .given .1),
-    (c .length-bytes .ensures .0),
-  );
-}
+returns-13 c = rw (
+  (c .before .enum-told10 .given .1),
+  (c .length-bytes .ensures .0),
+)
 
 returns-14 : tie.Need-returns-14
-returns-14 c = record {
-  means = λ at a s present d. rw (
-    (c .before .enum-told11 .given .1),
-    (c .length-bytes2 .ensures .0),
-  );
-}
+returns-14 c = rw (
+  (c .before .enum-told11 .given .1),
+  (c .length-bytes2 .ensures .0),
+)
 
 returns-15 : tie.Need-returns-15
-returns-15 c = record {
-  means = λ at a s present d. rw (c .enum-told12 .given .1)
-      (all-behind 2 at ((c .before .before .before .args .reply .now)));
-}
+returns-15 c = rw (c .enum-told12 .given .1)
 
 returns-16 : tie.Need-returns-16
-returns-16 c = record {
-  means = λ at a s present d. rw (c .enum-told13 .given .1)
-      (all-behind 1 at ((c .before .before .before .args .reply .now)));
-}
+returns-16 c = rw (c .enum-told13 .given .1)
 
 pub hands-out-spec : {M : Type 1} → statement M
 hands-out-spec =

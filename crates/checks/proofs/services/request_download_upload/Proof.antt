@@ -7,7 +7,7 @@ use borrow.Author.Tests.{le-leb, lt-leb, not-true, not-false}
 use lib.Dec.{ltb, eqb}
 use lib.ListN.{getD}
 use Rattle.rules.specs.After.{lengthBytes}
-use Rattle.rules.specs.Checks.{inStrict}
+use Rattle.rules.specs.InOrder.{inStrict}
 use Rattle.checks.proofs.services.request_download_upload.Statement.{statement}
 use Rattle.checks.proofs.services.request_download_upload.Tie as tie
 

@@ -107,90 +107,81 @@ enum-known-call-6 c = search needs
 transfer-data-requires : tie.Need-transfer-data-requires
 transfer-data-requires c κs = search needs
 
-transfer-data-requires-2 : tie.Need-transfer-data-requires-2
-transfer-data-requires-2 c κs = search needs
-
 enum-told-9 : tie.Need-enum-told-9
 enum-told-9 c = search needs
 
 returns : tie.Need-returns
-returns c = λ d. rw (c .enum-told .given .1)
+returns c = rw (c .enum-told .given .1)
 
 returns-2 : tie.Need-returns-2
-returns-2 c = λ d. rw (c .before .enum-told2 .given .1) (c .validate-response-length .ensures)
+returns-2 c = rw (c .before .enum-told2 .given .1) (c .validate-response-length .ensures)
 
 returns-3 : tie.Need-returns-3
-returns-3 c = λ d. rw (
+returns-3 c = rw (
   (c .before .before .before .call .given .1),
   eq-eqb _ 4 (c .before .if1 .taken),
 ) (c .validate-response-length2 .ensures)
 
 returns-4 : tie.Need-returns-4
-returns-4 c = λ d. rw (
+returns-4 c = rw (
   (c .before .before .before .call .given .1),
   ne-eqb _ 4 (c .before .if1 .left),
 ) (c .validate-response-length3 .ensures)
 
 returns-5 : tie.Need-returns-5
-returns-5 c = λ d. rw (
+returns-5 c = rw (
   (c .before .before .before .call2 .given .1),
   eq-eqb _ 1 (c .before .if2 .taken),
 ) (c .validate-response-length4 .ensures)
 
 returns-6 : tie.Need-returns-6
-returns-6 c = λ d. rw (
+returns-6 c = rw (
   (c .before .before .before .call2 .given .1),
   ne-eqb _ 1 (c .before .if2 .left),
 ) (c .validate-response-length5 .ensures)
 
 returns-7 : tie.Need-returns-7
-returns-7 c = λ d. rw (c .before .enum-told3 .given .1) (c .validate-response-length6 .ensures)
+returns-7 c = rw (c .before .enum-told3 .given .1) (c .validate-response-length6 .ensures)
 
 returns-8 : tie.Need-returns-8
-returns-8 c = λ d. rw (
+returns-8 c = rw (
   (c .before .enum-told4 .given .1),
   ← (c .before .before .before .part2 .ensures),
 ) (c .read-memory-by-address .ensures)
 
 returns-9 : tie.Need-returns-9
-returns-9 c = λ d. rw (
+returns-9 c = rw (
   (c .before .enum-told5 .given .1),
   ← (c .before .before .before .before .part .ensures),
   ← (c .before .before .before .part2 .ensures),
 ) (c .write-memory-by-address .ensures)
 
 returns-10 : tie.Need-returns-10
-returns-10 c = λ d. rw (c .before .before .call3 .given .1) (c .identified .ensures)
+returns-10 c = rw (c .before .before .call3 .given .1) (c .identified .ensures)
 
 returns-11 : tie.Need-returns-11
-returns-11 c = λ d. rw (c .before .before .call4 .given .1) (c .identified2 .ensures)
+returns-11 c = rw (c .before .before .call4 .given .1) (c .identified2 .ensures)
 
 returns-12 : tie.Need-returns-12
-returns-12 c = λ d. rw (c .before .enum-told6 .given .1) (c .read-dtc-information .ensures)
+returns-12 c = rw (c .before .enum-told6 .given .1) (c .read-dtc-information .ensures)
 
 returns-13 : tie.Need-returns-13
-returns-13 c = λ d. rw (c .before .before .call5 .given .1) (c .routine-control .ensures)
+returns-13 c = rw (c .before .before .call5 .given .1) (c .routine-control .ensures)
 
 returns-14 : tie.Need-returns-14
-returns-14 c = λ d. rw (c .before .enum-told7 .given .1) (c .request-download-upload .ensures)
+returns-14 c = rw (c .before .enum-told7 .given .1) (c .request-download-upload .ensures)
 
 returns-15 : tie.Need-returns-15
-returns-15 c = λ d. rw (c .before .enum-told8 .given .1) (c .request-download-upload2 .ensures)
+returns-15 c = rw (c .before .enum-told8 .given .1) (c .request-download-upload2 .ensures)
 
 returns-16 : tie.Need-returns-16
-returns-16 c = λ d. rw (
-  (c .before .before .before .call6 .given .1),
-  (c .before .if3 .taken),
-) (c .transfer-data .ensures)
+returns-16 c = rw (c .before .before .before .call6 .given .1, ← (c .before .transfer-length .ensures)) (c .transfer-data .ensures)
 
 returns-17 : tie.Need-returns-17
-returns-17 c = λ d. rw (
-  (c .before .before .before .call6 .given .1),
-  (c .before .if3 .left),
-) (c .transfer-data2 .ensures)
+returns-17 c = rw (c .enum-told9 .given .1)
 
-returns-18 : tie.Need-returns-18
-returns-18 c = λ d. rw (c .enum-told9 .given .1)
+transfer-length-requires : tie.Need-transfer-length-requires
+transfer-length-requires c κs = search needs
 
 pub verdict-spec : {M : Type 1} → statement M
 verdict-spec =
@@ -226,8 +217,8 @@ verdict-spec =
     enum-told-8
     request-download-upload-requires-2
     enum-known-call-6
+    transfer-length-requires
     transfer-data-requires
-    transfer-data-requires-2
     enum-told-9
     returns
     returns-2
@@ -245,5 +236,4 @@ verdict-spec =
     returns-14
     returns-15
     returns-16
-    returns-17
-    returns-18)
+    returns-17)

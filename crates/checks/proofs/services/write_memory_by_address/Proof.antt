@@ -8,7 +8,7 @@ use lib.Dec.{eqb}
 use lib.ListN.{length, getD, take, drop}
 use Rattle.rules.specs.After.{exactly}
 use Rattle.rules.specs.Bytes.{same}
-use Rattle.rules.specs.Checks.{inStrict}
+use Rattle.rules.specs.InOrder.{inStrict}
 use Rattle.checks.proofs.services.write_memory_by_address.Statement.{statement}
 use Rattle.checks.proofs.services.write_memory_by_address.Tie as tie
 

@@ -1,49 +1,10 @@
--- `numbers::deviation` meets its contract, case by case.
+-- `numbers::deviation` meets its contract: deviation 8, or another.
+use mathlib.Core.Path.{_∙_, ap}
+use Rattle.host.specs.Numbers.{plain}
+use Rattle.host.proofs.Telling.{alone}
 use borrow.Author.Needs.{needs}
 use Rattle.host.proofs.numbers.deviation.Statement.{statement}
 use Rattle.host.proofs.numbers.deviation.Tie as tie
-
-enum-told : tie.Need-enum-told
-enum-told c = search needs
-
-plain-requires : tie.Need-plain-requires
-plain-requires c κs = search needs
-
-enum-told-2 : tie.Need-enum-told-2
-enum-told-2 c = search needs
-
-plain-requires-2 : tie.Need-plain-requires-2
-plain-requires-2 c κs = search needs
-
-enum-told-3 : tie.Need-enum-told-3
-enum-told-3 c = search needs
-
-plain-requires-3 : tie.Need-plain-requires-3
-plain-requires-3 c κs = search needs
-
-enum-told-4 : tie.Need-enum-told-4
-enum-told-4 c = search needs
-
-plain-requires-4 : tie.Need-plain-requires-4
-plain-requires-4 c κs = search needs
-
-enum-told-5 : tie.Need-enum-told-5
-enum-told-5 c = search needs
-
-plain-requires-5 : tie.Need-plain-requires-5
-plain-requires-5 c κs = search needs
-
-enum-told-6 : tie.Need-enum-told-6
-enum-told-6 c = search needs
-
-plain-requires-6 : tie.Need-plain-requires-6
-plain-requires-6 c κs = search needs
-
-enum-told-7 : tie.Need-enum-told-7
-enum-told-7 c = search needs
-
-plain-requires-7 : tie.Need-plain-requires-7
-plain-requires-7 c κs = search needs
 
 enum-known-deviation : tie.Need-enum-known-deviation
 enum-known-deviation c = search needs
@@ -51,139 +12,29 @@ enum-known-deviation c = search needs
 upper-requires : tie.Need-upper-requires
 upper-requires c κs = search needs
 
-enum-told-8 : tie.Need-enum-told-8
-enum-told-8 c = search needs
+deviation-number-requires : tie.Need-deviation-number-requires
+deviation-number-requires c κs = search needs
 
-plain-requires-8 : tie.Need-plain-requires-8
-plain-requires-8 c κs = search needs
+cast-plain : tie.Need-cast-plain
+cast-plain c = search needs
 
-enum-told-9 : tie.Need-enum-told-9
-enum-told-9 c = search needs
-
-plain-requires-9 : tie.Need-plain-requires-9
-plain-requires-9 c κs = search needs
-
-enum-told-10 : tie.Need-enum-told-10
-enum-told-10 c = search needs
-
-plain-requires-10 : tie.Need-plain-requires-10
-plain-requires-10 c κs = search needs
-
-enum-told-11 : tie.Need-enum-told-11
-enum-told-11 c = search needs
-
-plain-requires-11 : tie.Need-plain-requires-11
-plain-requires-11 c κs = search needs
-
-enum-told-12 : tie.Need-enum-told-12
-enum-told-12 c = search needs
-
-plain-requires-12 : tie.Need-plain-requires-12
-plain-requires-12 c κs = search needs
-
-enum-told-13 : tie.Need-enum-told-13
-enum-told-13 c = search needs
-
-plain-requires-13 : tie.Need-plain-requires-13
-plain-requires-13 c κs = search needs
-
-enum-told-14 : tie.Need-enum-told-14
-enum-told-14 c = search needs
-
-plain-requires-14 : tie.Need-plain-requires-14
-plain-requires-14 c κs = search needs
+plain-requires : tie.Need-plain-requires
+plain-requires c κs = search needs
 
 returns : tie.Need-returns
-returns c = rw (c .before .enum-told .given .1) (c .plain .ensures)
+returns c = rw (c .before .before .deviation .given .1, c .upper .ensures)
 
 returns-2 : tie.Need-returns-2
-returns-2 c = rw (c .before .enum-told2 .given .1) (c .plain2 .ensures)
-
-returns-3 : tie.Need-returns-3
-returns-3 c = rw (c .before .enum-told3 .given .1) (c .plain3 .ensures)
-
-returns-4 : tie.Need-returns-4
-returns-4 c = rw (c .before .enum-told4 .given .1) (c .plain4 .ensures)
-
-returns-5 : tie.Need-returns-5
-returns-5 c = rw (c .before .enum-told5 .given .1) (c .plain5 .ensures)
-
-returns-6 : tie.Need-returns-6
-returns-6 c = rw (c .before .enum-told6 .given .1) (c .plain6 .ensures)
-
-returns-7 : tie.Need-returns-7
-returns-7 c = rw (c .before .enum-told7 .given .1) (c .plain7 .ensures)
-
-returns-8 : tie.Need-returns-8
-returns-8 c = rw (c .before .before .deviation .given .1, c .upper .ensures)
-
-returns-9 : tie.Need-returns-9
-returns-9 c = rw (c .before .enum-told8 .given .1) (c .plain8 .ensures)
-
-returns-10 : tie.Need-returns-10
-returns-10 c = rw (c .before .enum-told9 .given .1) (c .plain9 .ensures)
-
-returns-11 : tie.Need-returns-11
-returns-11 c = rw (c .before .enum-told10 .given .1) (c .plain10 .ensures)
-
-returns-12 : tie.Need-returns-12
-returns-12 c = rw (c .before .enum-told11 .given .1) (c .plain11 .ensures)
-
-returns-13 : tie.Need-returns-13
-returns-13 c = rw (c .before .enum-told12 .given .1) (c .plain12 .ensures)
-
-returns-14 : tie.Need-returns-14
-returns-14 c = rw (c .before .enum-told13 .given .1) (c .plain13 .ensures)
-
-returns-15 : tie.Need-returns-15
-returns-15 c = rw (c .before .enum-told14 .given .1) (c .plain14 .ensures)
+returns-2 c = c .plain .ensures ∙ ap (plain 6) (c .before .deviation-number .ensures) ∙ alone (c .before .before .before .args .deviation) (c .before .before .match .keys2)
 
 pub deviation-spec : {M : Type 1} → statement M
 deviation-spec =
     tie.close
     (tie.spec
-    enum-told
-    plain-requires
-    enum-told-2
-    plain-requires-2
-    enum-told-3
-    plain-requires-3
-    enum-told-4
-    plain-requires-4
-    enum-told-5
-    plain-requires-5
-    enum-told-6
-    plain-requires-6
-    enum-told-7
-    plain-requires-7
     enum-known-deviation
     upper-requires
-    enum-told-8
-    plain-requires-8
-    enum-told-9
-    plain-requires-9
-    enum-told-10
-    plain-requires-10
-    enum-told-11
-    plain-requires-11
-    enum-told-12
-    plain-requires-12
-    enum-told-13
-    plain-requires-13
-    enum-told-14
-    plain-requires-14
+    deviation-number-requires
+    cast-plain
+    plain-requires
     returns
-    returns-2
-    returns-3
-    returns-4
-    returns-5
-    returns-6
-    returns-7
-    returns-8
-    returns-9
-    returns-10
-    returns-11
-    returns-12
-    returns-13
-    returns-14
-    returns-15)
+    returns-2)

@@ -8,21 +8,18 @@ use Rattle.host.proofs.numbers.numbers.Tie as tie
 told-requires : tie.Need-told-requires
 told-requires c κs = search needs
 
+cast-t11 : tie.Need-cast-t11
+cast-t11 c = search needs
+
 cast-t12 : tie.Need-cast-t12
 cast-t12 c = search needs
-
-cast-t13 : tie.Need-cast-t13
-cast-t13 c = search needs
-
-unless-refused-requires : tie.Need-unless-refused-requires
-unless-refused-requires c κs = search needs
 
 returns : tie.Need-returns
 unfolding numbersOf
 returns c =
-    let told = c .before .before .before in
+    let told = c .before .before in
     let x = told .before .before .before .before .args .x in
-    λ replies buffer inside within. rw (c .unless-refused .ensures, long replies (x .answer .reply) within, ← told .told .ensures replies inside)
+    λ replies buffer inside within. rw (long replies (x .answer .reply) within, ← told .told .ensures replies inside)
 
 pub numbers-spec : {M : Type 1} → statement M
-numbers-spec = tie.close (tie.spec told-requires cast-t12 cast-t13 unless-refused-requires returns)
+numbers-spec = tie.close (tie.spec told-requires cast-t11 cast-t12 returns)

@@ -46,6 +46,9 @@ plain-requires-5 c κs = search needs
 enum-known-outcome-4 : tie.Need-enum-known-outcome-4
 enum-known-outcome-4 c = search needs
 
+enum-known-fault : tie.Need-enum-known-fault
+enum-known-fault c = search needs
+
 deviation-requires : tie.Need-deviation-requires
 deviation-requires c κs = search needs
 
@@ -89,13 +92,15 @@ returns-6 : tie.Need-returns-6
 returns-6 c = λ replies inside. rw (c .before .before .outcome3 .given .1) (c .plain5 .ensures)
 
 returns-7 : tie.Need-returns-7
-returns-7 c = λ replies inside. rw (c .before .before .outcome4 .given .1) (c .deviation .ensures)
+returns-7 c =
+    let fault = c .before .before in
+    λ replies inside. rw (fault .before .before .before .outcome4 .given .1, fault .fault .given .1) (c .deviation .ensures)
 
 returns-8 : tie.Need-returns-8
-returns-8 c = λ replies inside. rw (c .before .enum-told4 .given .1) (c .plain6 .ensures)
+returns-8 c = λ replies inside. rw (c .before .before .before .before .outcome4 .given .1, c .before .enum-told4 .given .1) (c .plain6 .ensures)
 
 returns-9 : tie.Need-returns-9
-returns-9 c = λ replies inside. rw (c .before .enum-told5 .given .1) (c .plain7 .ensures)
+returns-9 c = λ replies inside. rw (c .before .before .before .before .outcome4 .given .1, c .before .enum-told5 .given .1) (c .plain7 .ensures)
 
 returns-10 : tie.Need-returns-10
 returns-10 c = λ replies inside. rw (c .before .before .outcome5 .given .1) (c .plain8 .ensures)
@@ -118,6 +123,7 @@ told-spec =
     cast-plain-2
     plain-requires-5
     enum-known-outcome-4
+    enum-known-fault
     deviation-requires
     enum-told-4
     plain-requires-6

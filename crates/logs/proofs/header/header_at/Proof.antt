@@ -8,8 +8,8 @@ use borrow.Author.Needs.{needs}
 use Rattle.logs.proofs.header.header_at.Statement.{statement}
 use Rattle.logs.proofs.header.header_at.Tie as tie
 
-area-requires : tie.Need-area-requires
-area-requires c κs = search needs
+part-requires : tie.Need-part-requires
+part-requires c κs = search needs
 
 header-in-requires : tie.Need-header-in-requires
 header-in-requires c κs = search needs
@@ -19,7 +19,7 @@ returns c =
     let l = c .before .before .before .args .log .now in
     let at = c .before .before .before .args .at in
     let whole = take-all (length l) (drop at l) (simp length-drop (omega arith)) in
-    c .header-in .ensures ∙ ap headerOf (c .before .area .ensures ∙ whole)
+    c .header-in .ensures ∙ ap headerOf (c .before .part .ensures ∙ whole)
 
 pub header-at-spec : {M : Type 1} → statement M
-header-at-spec = tie.close (tie.spec area-requires header-in-requires returns)
+header-at-spec = tie.close (tie.spec part-requires header-in-requires returns)

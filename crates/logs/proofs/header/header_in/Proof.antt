@@ -3,59 +3,59 @@ use borrow.Author.Needs.{needs}
 use Rattle.logs.proofs.header.header_in.Statement.{statement}
 use Rattle.logs.proofs.header.header_in.Tie as tie
 
-two-requires : tie.Need-two-requires
-two-requires c κs = search needs
+u16-at-requires : tie.Need-u16-at-requires
+u16-at-requires c κs = search needs
 
-byte-requires : tie.Need-byte-requires
-byte-requires c κs = search needs
+byte-at-requires : tie.Need-byte-at-requires
+byte-at-requires c κs = search needs
 
-byte-requires-2 : tie.Need-byte-requires-2
-byte-requires-2 c κs = search needs
+byte-at-requires-2 : tie.Need-byte-at-requires-2
+byte-at-requires-2 c κs = search needs
 
-two-requires-2 : tie.Need-two-requires-2
-two-requires-2 c κs = search needs
+u16-at-requires-2 : tie.Need-u16-at-requires-2
+u16-at-requires-2 c κs = search needs
 
-byte-requires-3 : tie.Need-byte-requires-3
-byte-requires-3 c κs = search needs
+byte-at-requires-3 : tie.Need-byte-at-requires-3
+byte-at-requires-3 c κs = search needs
 
-byte-requires-4 : tie.Need-byte-requires-4
-byte-requires-4 c κs = search needs
+byte-at-requires-4 : tie.Need-byte-at-requires-4
+byte-at-requires-4 c κs = search needs
 
-byte-requires-5 : tie.Need-byte-requires-5
-byte-requires-5 c κs = search needs
+byte-at-requires-5 : tie.Need-byte-at-requires-5
+byte-at-requires-5 c κs = search needs
 
-byte-requires-6 : tie.Need-byte-requires-6
-byte-requires-6 c κs = search needs
+byte-at-requires-6 : tie.Need-byte-at-requires-6
+byte-at-requires-6 c κs = search needs
 
-two-requires-3 : tie.Need-two-requires-3
-two-requires-3 c κs = search needs
+u16-at-requires-3 : tie.Need-u16-at-requires-3
+u16-at-requires-3 c κs = search needs
 
-two-requires-4 : tie.Need-two-requires-4
-two-requires-4 c κs = search needs
+u16-at-requires-4 : tie.Need-u16-at-requires-4
+u16-at-requires-4 c κs = search needs
 
-two-requires-5 : tie.Need-two-requires-5
-two-requires-5 c κs = search needs
+u16-at-requires-5 : tie.Need-u16-at-requires-5
+u16-at-requires-5 c κs = search needs
 
-two-requires-6 : tie.Need-two-requires-6
-two-requires-6 c κs = search needs
+u16-at-requires-6 : tie.Need-u16-at-requires-6
+u16-at-requires-6 c κs = search needs
 
-two-requires-7 : tie.Need-two-requires-7
-two-requires-7 c κs = search needs
+u16-at-requires-7 : tie.Need-u16-at-requires-7
+u16-at-requires-7 c κs = search needs
 
-two-requires-8 : tie.Need-two-requires-8
-two-requires-8 c κs = search needs
+u16-at-requires-8 : tie.Need-u16-at-requires-8
+u16-at-requires-8 c κs = search needs
 
-two-requires-9 : tie.Need-two-requires-9
-two-requires-9 c κs = search needs
+u16-at-requires-9 : tie.Need-u16-at-requires-9
+u16-at-requires-9 c κs = search needs
 
-four-requires : tie.Need-four-requires
-four-requires c κs = search needs
+u32-at-requires : tie.Need-u32-at-requires
+u32-at-requires c κs = search needs
 
-four-requires-2 : tie.Need-four-requires-2
-four-requires-2 c κs = search needs
+u32-at-requires-2 : tie.Need-u32-at-requires-2
+u32-at-requires-2 c κs = search needs
 
-four-requires-3 : tie.Need-four-requires-3
-four-requires-3 c κs = search needs
+u32-at-requires-3 : tie.Need-u32-at-requires-3
+u32-at-requires-3 c κs = search needs
 
 returns : tie.Need-returns
 returns c =
@@ -77,46 +77,46 @@ returns c =
     let f₂ = f₃ .before in
     let f₁ = f₂ .before in
     λ i. record {
-      version = f₁ .two .ensures i;
-      call = f₂ .byte .ensures i;
-      flags = f₃ .byte2 .ensures i;
-      value = f₄ .two2 .ensures i;
-      sub = f₅ .byte3 .ensures i;
-      addressLength = f₆ .byte4 .ensures i;
-      sizeLength = f₇ .byte5 .ensures i;
-      unused = f₈ .byte6 .ensures i;
-      arguments = f₉ .two3 .ensures i;
-      argumentsAt = f₁₀ .two4 .ensures i;
-      events = f₁₁ .two5 .ensures i;
-      eventsAt = f₁₂ .two6 .ensures i;
-      replies = f₁₃ .two7 .ensures i;
-      repliesAt = f₁₄ .two8 .ensures i;
-      total = f₁₅ .two9 .ensures i;
-      p2 = f₁₆ .four .ensures i;
-      star = f₁₇ .four2 .ensures i;
-      limit = c .four3 .ensures i;
+      version = f₁ .u16-at .ensures i;
+      call = f₂ .byte-at .ensures i;
+      flags = f₃ .byte-at2 .ensures i;
+      value = f₄ .u16-at2 .ensures i;
+      sub = f₅ .byte-at3 .ensures i;
+      addressLength = f₆ .byte-at4 .ensures i;
+      sizeLength = f₇ .byte-at5 .ensures i;
+      unused = f₈ .byte-at6 .ensures i;
+      arguments = f₉ .u16-at3 .ensures i;
+      argumentsAt = f₁₀ .u16-at4 .ensures i;
+      events = f₁₁ .u16-at5 .ensures i;
+      eventsAt = f₁₂ .u16-at6 .ensures i;
+      replies = f₁₃ .u16-at7 .ensures i;
+      repliesAt = f₁₄ .u16-at8 .ensures i;
+      total = f₁₅ .u16-at9 .ensures i;
+      p2 = f₁₆ .u32-at .ensures i;
+      star = f₁₇ .u32-at2 .ensures i;
+      overall = c .u32-at3 .ensures i;
     }
 
 pub header-in-spec : {M : Type 1} → statement M
 header-in-spec =
     tie.close
     (tie.spec
-    two-requires
-    byte-requires
-    byte-requires-2
-    two-requires-2
-    byte-requires-3
-    byte-requires-4
-    byte-requires-5
-    byte-requires-6
-    two-requires-3
-    two-requires-4
-    two-requires-5
-    two-requires-6
-    two-requires-7
-    two-requires-8
-    two-requires-9
-    four-requires
-    four-requires-2
-    four-requires-3
+    u16-at-requires
+    byte-at-requires
+    byte-at-requires-2
+    u16-at-requires-2
+    byte-at-requires-3
+    byte-at-requires-4
+    byte-at-requires-5
+    byte-at-requires-6
+    u16-at-requires-3
+    u16-at-requires-4
+    u16-at-requires-5
+    u16-at-requires-6
+    u16-at-requires-7
+    u16-at-requires-8
+    u16-at-requires-9
+    u32-at-requires
+    u32-at-requires-2
+    u32-at-requires-3
     returns)

@@ -9,11 +9,11 @@ cast-a c = search needs
 cast-s : tie.Need-cast-s
 cast-s c = search needs
 
-add-area : tie.Need-add-area
-add-area c = search needs
+add-read-area : tie.Need-add-read-area
+add-read-area c = search needs
 
-add-area-2 : tie.Need-add-area-2
-add-area-2 c = search needs
+add-read-area-2 : tie.Need-add-read-area-2
+add-read-area-2 c = search needs
 
 cast-less : tie.Need-cast-less
 cast-less c = search needs
@@ -24,11 +24,11 @@ add-less c = search needs
 less-requires : tie.Need-less-requires
 less-requires c κs = search needs
 
-area-requires : tie.Need-area-requires
-area-requires c κs = search needs
+read-area-requires : tie.Need-read-area-requires
+read-area-requires c κs = search needs
 
 returns : tie.Need-returns
-returns c = rw (← (c .before .less .ensures)) (c .area .ensures)
+returns c = rw (← (c .before .less .ensures)) (c .read-area .ensures)
 
 pub data-of-spec : {M : Type 1} → statement M
 data-of-spec =
@@ -36,10 +36,10 @@ data-of-spec =
     (tie.spec
     cast-a
     cast-s
-    add-area
-    add-area-2
+    add-read-area
+    add-read-area-2
     cast-less
     add-less
     less-requires
-    area-requires
+    read-area-requires
     returns)

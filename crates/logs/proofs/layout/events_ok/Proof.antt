@@ -4,13 +4,13 @@ use native.Mathlib.Nat.{sub-zero}
 use native.Mathlib.Omega.{arith}
 use mathlib.Core.Bool.{Bool, true, false, _&&_}
 use mathlib.Core.List.{List}
-use mathlib.Core.Path.{_≡_, sym, _∙_}
+use mathlib.Core.Path.{_≡_, sym, _∙_, ap}
 use lib.ListN.{length}
 use borrow.Author.Tests.{not-true, not-false}
 use Rattle.rules.specs.Bytes.{every}
-use Rattle.rules.specs.Events.{entriesFrom, entries}
+use Rattle.rules.specs.Events.{eventSize, entriesFrom, entries}
 use Rattle.rules.specs.Logs.{eventOk}
-use Rattle.logs.proofs.Layouts.{event-turn, event-at, events-end}
+use Rattle.logs.proofs.Layouts.{event-turn, events-end}
 use Rattle.logs.proofs.layout.events_ok.Statement.{statement}
 use Rattle.logs.proofs.layout.events_ok.Tie as tie
 
@@ -20,46 +20,27 @@ Inv-loop events n i₀ i = (i ≤ n) × (every eventOk (entriesFrom events (n - 
 abbrev μ-loop : tie.MeasureT-loop
 μ-loop events n i₀ i = n - i
 
--- One turn: `event_ok` told of event i.
 abbrev events : tie.After-event-ok Inv-loop μ-loop → List ℕ
-events e = e .before .before .before .before .before .before .before .args .events .now
+events e = e .before .before .before .before .before .args .events .now
 
 -- Whether the events from index i on are sound.
 abbrev rest : List ℕ → ℕ → Bool
-rest bs i = every eventOk (entriesFrom bs (length bs / 10 - i) i)
+rest bs i = every eventOk (entriesFrom bs (length bs / eventSize - i) i)
 
+-- One turn: `event_ok` told of event i.
 turn : (e : tie.After-event-ok Inv-loop μ-loop) (b : Bool) → e .event-ok .result ≡ b →
-    (b && rest (events e) (e .before .before .before .before .before .loop .i + 1)) ≡ every eventOk (entries (events e))
+    (b && rest (events e) (e .before .before .before .loop .i + 1)) ≡ every eventOk (entries (events e))
 turn e b r =
-    let test = e .before .before .before .before in
+    let test = e .before .before in
     let at = test .before .loop in
-    let read = event-at (events e) (at .i) (e .before .before .before .two .ensures) (e .before .before .two2 .ensures) (e .before .two3 .ensures) in
-    let step = event-turn (events e) (at .i) (length (events e) / 10) b (test .loop-test .taken) (read ∙ sym (e .event-ok .ensures) ∙ r) in
-    sym step ∙ at .inv .1
+    let told = sym (ap eventOk (e .before .event-at .ensures)) ∙ sym (e .event-ok .ensures) ∙ r in
+    sym (event-turn (events e) (at .i) (length (events e) / eventSize) b (test .loop-test .taken) told) ∙ at .inv .1
 
 loop-holds : tie.Need-loop-holds Inv-loop μ-loop
 loop-holds c = (omega arith, rw sub-zero)
 
-mul-at : tie.Need-mul-at Inv-loop μ-loop
-mul-at c = omega arith
-
-add-two : tie.Need-add-two Inv-loop μ-loop
-add-two c = omega arith
-
-two-requires : tie.Need-two-requires Inv-loop μ-loop
-two-requires c κs = omega arith
-
-add-two-2 : tie.Need-add-two-2 Inv-loop μ-loop
-add-two-2 c = omega arith
-
-two-requires-2 : tie.Need-two-requires-2 Inv-loop μ-loop
-two-requires-2 c κs = omega arith
-
-add-two-3 : tie.Need-add-two-3 Inv-loop μ-loop
-add-two-3 c = omega arith
-
-two-requires-3 : tie.Need-two-requires-3 Inv-loop μ-loop
-two-requires-3 c κs = omega arith
+event-at-requires : tie.Need-event-at-requires Inv-loop μ-loop
+event-at-requires c κs = omega arith
 
 event-ok-requires : tie.Need-event-ok-requires Inv-loop μ-loop
 event-ok-requires c κs = omega arith
@@ -80,7 +61,7 @@ returns-2 : tie.Need-returns-2 Inv-loop μ-loop
 returns-2 c =
     let l = c .before in
     let bs = l .before .before .args .events .now in
-    sym (events-end bs (l .loop .i) (length bs / 10) (c .loop-test .left)) ∙ l .loop .inv .1
+    sym (events-end bs (l .loop .i) (length bs / eventSize) (c .loop-test .left)) ∙ l .loop .inv .1
 
 pub events-ok-spec : {M : Type 1} → statement M
 events-ok-spec =
@@ -89,13 +70,7 @@ events-ok-spec =
     Inv-loop
     μ-loop
     loop-holds
-    mul-at
-    add-two
-    two-requires
-    add-two-2
-    two-requires-2
-    add-two-3
-    two-requires-3
+    event-at-requires
     event-ok-requires
     returns
     add-i

@@ -1,8 +1,8 @@
--- `layout::uses_of` meets its contract: the array is the table, and past it stands the same row.
+-- `layout::uses_of` meets its contract: the array is the usesByCall, and past it stands the same row.
 use mathlib.Core.Path.{sym, ap}
 use lib.ListN.{List·getD-map, List·getD-eq-default}
 use Rattle.rules.specs.Logs as Logs
-use Rattle.rules.specs.Logs.{table, uses}
+use Rattle.rules.specs.Logs.{usesByCall, uses}
 use Rattle.logs.specs.declared.layout.Uses.{Uses}
 use Rattle.logs.specs.Layout.{meant}
 use borrow.Author.Needs.{needs}
@@ -19,10 +19,10 @@ array-copy-out-result : tie.Need-array-copy-out-result
 array-copy-out-result c = search needs
 
 returns : tie.Need-returns
-returns c = ap meant (List·getD-map row table (c .before .before .args .call) (uses 0 0 0 0 0 0))
+returns c = ap meant (List·getD-map row usesByCall (c .before .before .args .call) (uses 0 0 0 0 0 0))
 
 returns-2 : tie.Need-returns-2
-returns-2 c = sym (List·getD-eq-default table (uses 0 0 0 0 0 0) (c .if1 .left))
+returns-2 c = sym (List·getD-eq-default usesByCall (uses 0 0 0 0 0 0) (c .if1 .left))
 
 pub uses-of-spec : {M : Type 1} → statement M
 uses-of-spec = tie.close (tie.spec mul-result array-copy-out-result returns returns-2)

@@ -33,7 +33,9 @@ digit-requires-2 : tie.Need-digit-requires-2 Inv-loop μ-loop
 digit-requires-2 c κs = omega arith
 
 put-byte-requires-2 : tie.Need-put-byte-requires-2 Inv-loop μ-loop
-put-byte-requires-2 c κs = omega (arith, hex-length (c .before .before .before .before .before .before .before .before .before .before .before .before .args .bytes .now))
+put-byte-requires-2 c κs =
+    let loop = c .before .before .before .before .before .before .before .before .before .before .before in
+    omega (arith, hex-length (loop .before .args .bytes .now))
 
 add-i : tie.Need-add-i Inv-loop μ-loop
 add-i c = omega arith

@@ -11,7 +11,10 @@ use Rattle.logs.proofs.text.write.Statement.{statement}
 use Rattle.logs.proofs.text.write.Tie as tie
 
 abbrev start : tie.After-put-detail → tie.Start
-start f = f .before .before .before .before .before .before .before .before .before .before .before .before .before .before .before .before .before .before .before .before .before .before
+start f =
+    let third = f .before .before .before .before in
+    let first = third .before .before .before .before .before .before .before .before in
+    first .before .before .before .before .before .before .before .before .before .before
 
 put-word-requires : tie.Need-put-word-requires
 put-word-requires c κs = search needs
@@ -46,8 +49,11 @@ returns c =
     let f₂ = f₃ .before .before .before .before in
     let f₁ = f₂ .before .before .before .before in
     let a = start f₅ .args in
-    let long = text-length (a .word .now) (a .head .now ++ a .bytes .now) (a .time) (a .events) (a .notices) refl refl refl (sym (length-append (a .head .now) (a .bytes .now))) in
-    joined (rw long (start f₅ .pre)) (f₁ .put-word .ensures) (f₂ .put-number .ensures) (f₃ .put-number2 .ensures) (f₄ .put-number3 .ensures) (f₅ .put-detail .ensures) (f₆ .put-byte .ensures)
+    let detail = a .head .now ++ a .bytes .now in
+    let both = sym (length-append (a .head .now) (a .bytes .now)) in
+    let long = text-length (a .word .now) detail (a .time) (a .events) (a .notices) refl refl refl both in
+    joined (rw long (start f₅ .pre)) (f₁ .put-word .ensures) (f₂ .put-number .ensures) (f₃ .put-number2 .ensures) (f₄ .put-number3 .ensures)
+    (f₅ .put-detail .ensures) (f₆ .put-byte .ensures)
 
 pub write-spec : {M : Type 1} → statement M
 write-spec =

@@ -16,13 +16,13 @@ enum-known-methods-2 : tie.Need-enum-known-methods-2
 enum-known-methods-2 c = search needs
 
 returns : tie.Need-returns
-returns c = rw (c .before .before .before .before .methods .given .1, c .before .lengths .given .1)
+returns c = rw ((c .before .before .before .before .methods .given .1), (c .before .lengths .given .1))
 
 returns-2 : tie.Need-returns-2
-returns-2 c = rw (c .before .before .before .before .methods .given .1, c .before .lengths2 .given .1)
+returns-2 c = rw ((c .before .before .before .before .methods .given .1), (c .before .lengths2 .given .1))
 
 returns-3 : tie.Need-returns-3
-returns-3 c = rw (c .before .methods2 .given .1)
+returns-3 c = rw ((c .before .methods2 .given .1))
 
 pub load-spec : {M : Type 1} → statement M
 load-spec =

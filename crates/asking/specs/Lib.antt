@@ -1,2 +1,0 @@
--- What the contracts of `asking` cite besides `rules`.
-pub mod Asking

@@ -1,0 +1,130 @@
+-- Demands 1 and 3 of document 01, carried to the fifteen numbers of the door: of any numbers and request that fit its contract with result 0.
+use Prim.Native.Nat.{ℕ}
+use native.Mathlib.Omega.{arith}
+use mathlib.Core.Bool.{Bool, true, false, cond, false≢true}
+use mathlib.Core.Path.{_≡_, refl, sym, _∙_, ap, subst, subst⁻¹}
+use mathlib.Core.Logic.{_↔_}
+use mathlib.Core.List.{List, [], _∷_}
+use mathlib.Core.Option.{none}
+use lib.Dec.{eqb, leb}
+use lib.ListN.{take, getD}
+use Rattle.rules.specs.Answers.{Answer, Outcome, positive, suppressed, negative, timeout, disconnected, transport, fault, refused, deviation, deviation8, badLength, overflow}
+use Rattle.rules.specs.Calls.{Call, Field}
+use Rattle.rules.specs.Client.{Result, eventsIn, call}
+use Rattle.rules.specs.Conversations.{Conversation}
+use Rattle.rules.specs.Demand1.{Numbered, Untouched}
+use Rattle.rules.specs.Demand3.{Named, Refused, Answers}
+use Rattle.rules.specs.Logs.{Header, flag, settingOf}
+use Rattle.rules.specs.Settings.{Timing, Setting, Lent}
+use Rattle.rules.proofs.Demand1.{demand1}
+use Rattle.rules.proofs.Demand3.{demand3}
+use Rattle.host.specs.Numbers.{valuesOf, answerNumbers, numbersOf}
+use Rattle.log_call.specs.Asking.{chosen}
+use Rattle.host.specs.Door.{asked, Served}
+
+-- Result 0 tells that a call was asked.
+was-asked : (b : Bool) → _≡_ {A = ℕ} 0 (cond b 0 1) → b ≡ true
+was-asked true h = refl
+was-asked false h = absurd (omega arith)
+
+-- The first number says which outcome it is: 9 a refusal, 0, 1 and 2 positive, suppressed and negative.
+is-refused : (o : Outcome) → eqb (valuesOf o .outcome) 9 ≡ true → (n : ℕ) × (o ≡ refused n)
+is-refused (refused n) h = (n, refl)
+is-refused (positive p) h = absurd (false≢true h)
+is-refused suppressed h = absurd (false≢true h)
+is-refused (negative n) h = absurd (false≢true h)
+is-refused timeout h = absurd (false≢true h)
+is-refused disconnected h = absurd (false≢true h)
+is-refused (transport n) h = absurd (false≢true h)
+is-refused (fault (deviation n)) h = absurd (false≢true h)
+is-refused (fault (deviation8 a b)) h = absurd (false≢true h)
+is-refused (fault badLength) h = absurd (false≢true h)
+is-refused (fault overflow) h = absurd (false≢true h)
+
+not-refused : (o : Outcome) → eqb (valuesOf o .outcome) 9 ≡ false → ¬ Refused o
+not-refused (refused n) h k = false≢true (sym h)
+not-refused (positive p) h k = k
+not-refused suppressed h k = k
+not-refused (negative n) h k = k
+not-refused timeout h k = k
+not-refused disconnected h k = k
+not-refused (transport n) h k = k
+not-refused (fault f) h k = k
+
+answers : (o : Outcome) → (leb (valuesOf o .outcome) 2 ≡ true) ↔ Answers o
+answers (positive p) = (λ h. tt, λ h. refl)
+answers suppressed = (λ h. tt, λ h. refl)
+answers (negative n) = (λ h. tt, λ h. refl)
+answers timeout = (λ h. false≢true h, λ h. absurd h)
+answers disconnected = (λ h. false≢true h, λ h. absurd h)
+answers (transport n) = (λ h. false≢true h, λ h. absurd h)
+answers (fault (deviation n)) = (λ h. false≢true h, λ h. absurd h)
+answers (fault (deviation8 a b)) = (λ h. false≢true h, λ h. absurd h)
+answers (fault badLength) = (λ h. false≢true h, λ h. absurd h)
+answers (fault overflow) = (λ h. false≢true h, λ h. absurd h)
+answers (refused n) = (λ h. false≢true h, λ h. absurd h)
+
+-- The numbers of a call refused with n: all else is 0, and the session's timing is what it was.
+abbrev pub refusedNumbers : ℕ → Timing → List ℕ
+refusedNumbers n t = 9 ∷ n ∷ 0 ∷ 0 ∷ 0 ∷ 0 ∷ 0 ∷ 0 ∷ 0 ∷ 0 ∷ 0 ∷ 0 ∷ t .p2 ∷ t .star ∷ 0 ∷ []
+
+refused-numbers : {w : Setting} {c : Call} {l : Lent} {n : ℕ} (x : Result) → x .answer .outcome ≡ refused n → Untouched w c l n x → numbersOf x ≡ refusedNumbers n (w .timing)
+unfolding numbersOf
+refused-numbers x e u = rw (e, u .time, u .events, u .notices, u .reply, u .number, u .sent, u .timing)
+
+-- The outcome's number, and the numbers of the answer.
+abbrev pub outcomeIn : List ℕ → ℕ
+outcomeIn told = getD told 0 0
+
+abbrev pub answerIn : List ℕ → List ℕ
+answerIn told = take 11 told
+
+-- Result 0 comes of numbers that ask a call: the call of these fields with this address, size and data.
+module _ {b : Bool} (h : Header) (a s : Field) (d : List ℕ) (l : Lent) {told after′ told′ : List ℕ}
+    (served : Served b (asked h a s d l) (l .buffer) told 0 after′ told′) where
+  abbrev result : Result
+  result = asked h a s d l
+
+  numbers-are : told′ ≡ numbersOf result
+  numbers-are = served .answer ∙ ap (λ (y : Bool). cond y (numbersOf result) told) (was-asked b (served .done))
+
+  request-is : after′ ≡ result .buffer
+  request-is = served .request ∙ ap (λ (y : Bool). cond y (result .buffer) (l .buffer)) (was-asked b (served .done))
+
+  outcome-is : outcomeIn told′ ≡ valuesOf (result .answer .outcome) .outcome
+  unfolding numbersOf
+  outcome-is = ap outcomeIn numbers-are
+
+  answer-is : answerIn told′ ≡ answerNumbers (result .answer)
+  unfolding numbersOf
+  answer-is = ap answerIn numbers-are
+
+  -- A refused call returns one number of document 01's for it, sent nothing, and leaves the request buffer and the session timing as they were.
+  pub demand-1 : outcomeIn told′ ≡ 9 → (n : ℕ) × (Numbered (chosen h a s d) n × (told′ ≡ refusedNumbers n (settingOf h .timing)) × (after′ ≡ l .buffer))
+  demand-1 k =
+      let found = is-refused (result .answer .outcome) (ap (λ (y : ℕ). eqb y 9) (sym outcome-is ∙ k)) in
+      let u = demand1 (eqb (flag 1 h) 1) (settingOf h) (chosen h a s d) l (found .0) (found .1) in
+      (found .0, (u .numbered, numbers-are ∙ refused-numbers result (found .1) u, request-is ∙ u .buffer))
+
+  -- A strict call of the fourteen, with no overall timeout, that is not refused answers positive, suppressed or negative exactly when the events begin with an allowed
+  -- conversation; and any such conversation has these numbers.
+  module _ (strict : eqb (flag 1 h) 1 ≡ true) (never : settingOf h .overall ≡ none) (named : Named (chosen h a s d)) (ok : eqb (outcomeIn told′) 9 ≡ false) where
+    abbrev pub Held : Answer → Type 0
+    Held = Conversation (settingOf h) (chosen h a s d) (eventsIn l)
+
+    strictly : (x : Answer) → ((result .answer ≡ x) × Answers (x .outcome)) ↔ Held x
+    strictly x =
+        let unrefused = not-refused (result .answer .outcome) (ap (λ (y : ℕ). eqb y 9) (sym outcome-is) ∙ ok) in
+        let by-true = subst (λ (m : Bool). ¬ Refused (call m (settingOf h) (chosen h a s d) l .answer .outcome)) strict unrefused in
+        subst⁻¹ (λ (m : Bool). ((call m (settingOf h) (chosen h a s d) l .answer ≡ x) × Answers (x .outcome)) ↔ Held x) strict
+        (demand3 (settingOf h) (chosen h a s d) l named never by-true x)
+
+    pub demand-3 : (leb (outcomeIn told′) 2 ≡ true) ↔ (x : Answer) × Held x
+    demand-3 =
+        let says = answers (result .answer .outcome) in (
+          λ k. let o = says .0 (ap (λ (y : ℕ). leb y 2) (sym outcome-is) ∙ k) in (result .answer, strictly (result .answer) .0 (refl, o)),
+          λ k. ap (λ (y : ℕ). leb y 2) outcome-is ∙ says .1 (let o = strictly (k .0) .1 (k .1) in subst⁻¹ (λ (y : Answer). Answers (y .outcome)) (o .0) (o .1)),
+        )
+
+    pub held-one : (x : Answer) → Held x → answerIn told′ ≡ answerNumbers x
+    held-one x k = answer-is ∙ ap answerNumbers (strictly x .1 k .0)

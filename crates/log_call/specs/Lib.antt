@@ -1,0 +1,2 @@
+-- What the contracts of `log_call` cite besides `rules`.
+pub mod Asking

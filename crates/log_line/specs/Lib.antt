@@ -1,0 +1,2 @@
+-- What the contracts of `log_line` cite besides `rules`.
+pub mod Answered

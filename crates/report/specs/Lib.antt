@@ -1,2 +1,0 @@
--- What the contracts of `report` cite besides `rules`.
-pub mod Numbers

@@ -1,0 +1,46 @@
+-- What every call of a client promises, by the contract `Asks` that each of them has: demands 1 and 3 of document 01.
+use Prim.Native.Nat.{ℕ}
+use mathlib.Core.Bool.{Bool, true}
+use mathlib.Core.Path.{_≡_, ap, subst}
+use mathlib.Core.Logic.{_↔_}
+use mathlib.Core.List.{List}
+use Rattle.rules.specs.Answers as rules
+use Rattle.rules.specs.Calls as calls
+use Rattle.rules.specs.Client.{eventsIn}
+use Rattle.rules.specs.Conversations.{Conversation}
+use Rattle.rules.specs.Demand1.{Untouched}
+use Rattle.rules.specs.Demand3 as demand
+use Rattle.rules.specs.Settings.{Setting, Lent}
+use Rattle.exchange.specs.Meaning.{answerOf, overallOf}
+use Rattle.exchange.specs.declared.types.RequestTimeout.the-variants.{Never}
+use Rattle.requests.specs.declared.Call.{Call}
+use Rattle.requests.specs.declared.Call.the-variants as call
+use Rattle.calls.specs.Meaning.{settingOf, lentOf, resultOf, Called}
+use Rattle.calls.specs.declared.Ask.{Ask}
+use Rattle.calls.specs.declared.Answered.{Answered}
+use Rattle.calls.proofs.Whole as whole
+use Rattle.uds.specs.Clients.{askOf, Asks}
+use Rattle.uds.specs.declared.UDSClient.{UDSClient}
+
+-- What is asked is the client's: `f` says the call with what stands beside it.
+pub as-asked : (u : UDSClient) (quiet : Bool) (k : Call) (f : Call → calls.Call) {l : Lent} {r : Answered} {b : List ℕ} {a : Ask} → a ≡ askOf u quiet k
+    → Called (a .strict) (settingOf a (u .session)) (f (a .call)) l r b
+    → Called (u .config .strict) (settingOf (askOf u quiet call.TesterPresent) (u .session)) (f k) l r b
+as-asked u quiet k f {l} {r} {b} e = subst (λ (x : Ask). Called (x .strict) (settingOf x (u .session)) (f (x .call)) l r b) e
+
+module _ (u : UDSClient) (quiet : Bool) (c : calls.Call) (before events replies : List ℕ) where
+  -- How the client makes the call, and what is lent to it.
+  abbrev made : Setting
+  made = settingOf (askOf u quiet call.TesterPresent) (u .session)
+
+  abbrev lent : Lent
+  lent = lentOf before events replies
+
+  module _ {r : Answered} {after : List ℕ} (asks : Asks u quiet c before events replies r after) where
+    pub demand-1 : {n : ℕ} → answerOf replies (r .answer) .outcome ≡ rules.refused n → Untouched made c lent n (resultOf replies r after)
+    demand-1 = whole.demand-1 asks
+
+    pub demand-3 : u .config .strict ≡ true → u .config .«request_timeout» ≡ Never → demand.Named c → ¬ demand.Refused (answerOf replies (r .answer) .outcome) → (x : rules.Answer)
+        → ((answerOf replies (r .answer) ≡ x) × demand.Answers (x .outcome)) ↔ Conversation made c (eventsIn lent) x
+    demand-3 strict never n ok x =
+        whole.demand-3 (subst (λ (s : Bool). Called s made c lent r after) strict asks) n (ap overallOf never) ok x
