@@ -2,7 +2,7 @@
 use Prim.Native.Nat.{ℕ, zero, suc, _+_, _-_, _/_}
 use mathlib.Core.List.{List, [], _++_}
 use lib.ListN.{length}
-use Rattle.rules.specs.Blocks.{block, counter, cuts}
+use Rattle.rules.specs.Blocks.{block, counter, cuts, carried}
 use Rattle.rules.specs.InOrder.{judge}
 use Rattle.blocks.specs.declared.Cut.{Cut}
 use Rattle.blocks.specs.declared.Cut.the-variants.{Counter, Refused}
@@ -13,7 +13,7 @@ cut bytes n k = judge Refused (cuts bytes n k) (Counter (counter k))
 
 -- How many blocks there are.
 abbrev pub number : List ℕ → ℕ → ℕ
-number bytes n = (length bytes + (n - 1)) / n
+number bytes n = (length bytes + (carried n - 1)) / carried n
 
 -- The first m blocks, joined in order.
 abbrev pub joined : List ℕ → ℕ → ℕ → List ℕ

@@ -1,9 +1,22 @@
-// Replays the list of data/ and prints how many of its lines are right. In `logs.bin` each log stands after its length as u32, big-endian;
-// `logs.expected` has the line of each.
+// Replays the lists of data/ and prints how many lines of each are right. In `NAME.bin` each case stands after its length as u32, big-endian;
+// `NAME.expected` has the line of each.
+use blocks::Cut;
+use lengths::Number;
 use libc::STDOUT_FILENO;
-use logs::text::LONGEST;
 use logs::text::Written;
+use logs::text::put_line;
 use wire::part;
+
+// What the cases of a list are.
+enum List {
+    Logs,
+    Blocks,
+}
+
+// The longest data that is cut; a line has its digits, and is longer than any line of a log.
+const LONGEST_DATA: usize = 9000;
+
+const LONGEST_LINE: usize = 18048;
 
 enum Byte {
     Next(u8),
@@ -44,17 +57,65 @@ fn read_exactly(fd: i32, buffer: &mut [u8], n: usize) -> bool {
     io::read_full(fd, &mut buffer[..n]) == n
 }
 
+// Data whose bytes count up to 250 and begin again, so that a block shows where it was cut.
+fn counting(data: &mut [u8]) {
+    let mut i = 0;
+    while i < data.len() {
+        data[i] = (i % 251) as u8;
+        i += 1;
+    }
+}
+
+// A number of up to eight bytes.
+fn number(bytes: &[u8]) -> u64 {
+    match lengths::block_length(bytes) {
+        Number::Value(n) => n,
+        Number::Overflow => 0,
+    }
+}
+
+// The data's length, the block length and the block's number, eight bytes each. The line: refusal, counter, length and bytes of the block.
+fn block_line(case: &[u8], line: &mut [u8]) -> Written {
+    let mut counting_data = [0u8; LONGEST_DATA];
+    counting(&mut counting_data);
+    let data = part(&counting_data, 0, number(part(case, 0, 8)) as usize);
+    let n = number(part(case, 8, 8));
+    let k = number(part(case, 16, 8));
+    let block = blocks::block(data, n, k);
+    match blocks::counter(data, n, k) {
+        Cut::Counter(counter) => {
+            put_line(
+                line,
+                b"block",
+                0,
+                counter as u64,
+                block.len() as u64,
+                b"",
+                block,
+            )
+        }
+        Cut::Refused(refusal) => put_line(line, b"block", refusal as u64, 0, 0, b"", block),
+    }
+}
+
+fn line_of(list: List, case: &[u8], line: &mut [u8]) -> Written {
+    match list {
+        List::Logs => log_line::line_of(case, line),
+        List::Blocks => block_line(case, line),
+    }
+}
+
 enum Replayed {
     Right,
     Wrong,
     End,
 }
 
-// The next log and its line; the end where both files are read. A file that ends early gives wrong lines.
-fn replay_one(logs: i32, lines: i32) -> Replayed {
+// The next case and its line; the end where both files are read. A file that ends early gives wrong lines.
+fn replay_one(list: List, cases: i32, lines: i32) -> Replayed {
     let mut head = [0u8; 4];
-    let got = io::read_full(logs, &mut head);
-    let mut expected = [0u8; LONGEST];
+    let got = io::read_full(cases, &mut head);
+    let mut expected = [0u8; LONGEST_LINE];
     let n = read_line(lines, &mut expected);
     if got == 0 && n == 0 {
         return Replayed::End;
@@ -63,13 +124,13 @@ fn replay_one(logs: i32, lines: i32) -> Replayed {
         return Replayed::Wrong;
     }
     // with room for a log that is too long
-    let mut log = [0u8; 131072];
+    let mut case = [0u8; 131072];
     let len = wire::u32_at(&head, 0) as usize;
-    if !read_exactly(logs, &mut log, len) {
+    if !read_exactly(cases, &mut case, len) {
         return Replayed::Wrong;
     }
-    let mut line = [0u8; LONGEST];
-    match log_line::line_of(part(&log, 0, len), &mut line) {
+    let mut line = [0u8; LONGEST_LINE];
+    match line_of(list, part(&case, 0, len), &mut line) {
         Written::Line(m) => {
             if check::same(part(&line, 0, m), part(&expected, 0, n)) {
                 Replayed::Right
@@ -87,12 +148,12 @@ struct Tally {
 }
 
 // A proved loop has to end, and nothing says that a file does: the loop counts its turns down from a number that no list uses up.
-fn replay(logs: i32, lines: i32) -> Tally {
+fn replay(list: List, cases: i32, lines: i32) -> Tally {
     let mut right: u64 = 0;
     let mut wrong: u64 = 0;
     let mut turns = u32::MAX;
     while turns > 0 {
-        match replay_one(logs, lines) {
+        match replay_one(list, cases, lines) {
             Replayed::Right => right += 1,
             Replayed::Wrong => wrong += 1,
             Replayed::End => break,
@@ -102,12 +163,20 @@ fn replay(logs: i32, lines: i32) -> Tally {
     Tally { right, wrong }
 }
 
-fn main() {
-    let logs = os::open_read(b"logs.bin");
-    let lines = os::open_read(b"logs.expected");
-    let tally = replay(logs, lines);
+fn say(name: &[u8], tally: Tally) {
+    io::write_all(STDOUT_FILENO, name);
+    io::write_all(STDOUT_FILENO, b": ");
     io::print_decimal(STDOUT_FILENO, tally.right);
     io::write_all(STDOUT_FILENO, b" right, ");
     io::print_decimal(STDOUT_FILENO, tally.wrong);
     io::write_all(STDOUT_FILENO, b" wrong\n");
+}
+
+fn main() {
+    let logs = os::open_read(b"logs.bin");
+    let log_lines = os::open_read(b"logs.expected");
+    say(b"logs", replay(List::Logs, logs, log_lines));
+    let blocks = os::open_read(b"blocks.bin");
+    let block_lines = os::open_read(b"blocks.expected");
+    say(b"blocks", replay(List::Blocks, blocks, block_lines));
 }

@@ -1,5 +1,6 @@
 -- The layouts, proved: each row of document 01's table against the standard's.
 use Prim.Native.Nat.{ℕ, zero, suc, _+_, _*_, _/_, _%_, _^_, _≤_, _<_}
+use native.Mathlib.Nat.{suc-mul}
 use native.Mathlib.Omega.{arith}
 use mathlib.Core.Bool.{Bool, true, false, cond, _&&_, false≢true}
 use mathlib.Core.Path.{_≡_, refl, sym, _∙_, ap, ap₂, subst⁻¹}
@@ -7,10 +8,11 @@ use mathlib.Core.Logic.{_≢_, _↔_}
 use mathlib.Core.List.{List, [], _∷_, _++_}
 use mathlib.Core.Option.{Option, none, some}
 use lib.Dec.{leb, eqb}
-use lib.ListN.{length, take, drop}
-use lib.Seq.{take-append-seam, drop-append-seam}
+use lib.ListN.{length, take, drop, length-take, length-drop}
+use lib.Seq.{take-append-seam, drop-append-seam, length-take-le}
 use borrow.Author.Tests.{leb-true, leb-false, le-leb, lt-ltb, eqb-true, eqb-false}
 use Rattle.rules.specs.Answers.{Part, part, negative}
+use Rattle.rules.specs.Blocks.{block, counter, carried}
 use Rattle.rules.specs.Bytes.{value, bytesOf, two, every, isByte}
 use Rattle.rules.specs.Calls.{Call, request, session, reset, security, testerPresent, readMemory, writeMemory, readIdentifier, writeIdentifier, faultCount, routine, download, upload, transfer, transferExit, orNone, byte, withBit7, suppresses, Field, given, alfid, sent, memory, positiveSid, sidOf, requestOf}
 use Rattle.rules.specs.Client.{Result, call}
@@ -18,12 +20,13 @@ use Rattle.rules.specs.Conversations.{Waiting, notice, Closing, byNegati
 use Rattle.rules.specs.Demand3.{Refused}
 use Rattle.rules.specs.Events.{Event, reply}
 use Rattle.rules.specs.Iso as Iso
-use Rattle.rules.specs.Layouts.{Bytes, OfBytes, Fields, direction, service, InRange, Recorded, Beyond, IsRow, Layouts}
+use Rattle.rules.specs.Layouts.{Bytes, OfBytes, Fields, direction, service, InRange, Recorded, Beyond, IsRow, transferOf, Layouts}
 use Rattle.rules.specs.Positives.{Loading, Asking}
 use Rattle.rules.specs.Refusals.{between, width, methods, lengths, key, arguments}
 use Rattle.rules.specs.Settings.{Setting, Lent, suppressing}
 use Rattle.rules.proofs.Demand3.{accepted}
 use Rattle.rules.proofs.Judging.{Pass, both, pass-append}
+use Rattle.rules.proofs.Writing.{every-drop, every-take}
 
 -- The sub-function as sent: the standard's bit 7, and the caller's low seven bits.
 sub-byte : (quiet : Bool) (sub : ℕ) → sub < 256 → byte (withBit7 quiet (some sub)) ≡ Iso.subFunction (suppresses (withBit7 quiet (some sub))) (sub % 128) ∷ []
@@ -261,6 +264,33 @@ module _ (w : Setting) where
           (subst⁻¹ (λ (r : List ℕ). Waiting (sidOf c) (reply t (part (p .at) r) ∷ es) (t ∷ k .0)) (k .2 .1) (notice {at = p .at} (k .3))),
     )
 
+  -- A block's transfer, which has two bytes before the block.
+  module _ (bytes : List ℕ) (n k : ℕ) (h : 3 ≤ n) where
+    abbrev left : List ℕ
+    left = drop (k * carried n) bytes
+
+    block-fits : length (block bytes n k) ≤ carried n
+    unfolding block
+    block-fits = omega (arith, length-take (carried n) left)
+
+    block-full : (k + 1) * carried n < length bytes → length (block bytes n k) ≡ carried n
+    unfolding block
+    block-full b = length-take-le (carried n) left (simp length-drop (omega (arith, suc-mul k (carried n))))
+
+    block-bytes : Bytes bytes → Bytes (block bytes n k)
+    unfolding block
+    block-bytes b = every-take isByte (carried n) left (every-drop isByte (k * carried n) bytes b)
+
+    blocks : Bytes bytes →
+        let c = transferOf bytes n k in
+        let r = requestOf (w .quiet) c in
+        Iso.Request (service w c) r × Iso.WithinBlockLength n r × ((k + 1) * carried n < length bytes → length r ≡ n)
+    blocks b = (
+      (byte-cons (counter k) (block bytes n k) (omega arith) (block-bytes b), refl),
+      omega (arith, block-fits),
+      λ z. omega (arith, block-full z),
+    )
+
 -- A test that holds of every number below n.
 abbrev below : ℕ → (ℕ → Bool) → Bool
 below zero p = true
@@ -286,4 +316,5 @@ layouts = record {
   positive-sid = positive-sid;
   negatives = negatives;
   notices = notices;
+  blocks = λ w bytes n k b h z. blocks w bytes n k h b;
 }

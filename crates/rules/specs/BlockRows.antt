@@ -24,25 +24,27 @@ seven = 1 ∷ 2 ∷ 3 ∷ 4 ∷ 5 ∷ 6 ∷ 7 ∷ []
 
 unfoldable pub blockRows : List BlockRow
 blockRows =
-    blockRow seven 3 0 (0, 1, 1 ∷ 2 ∷ 3 ∷ []) ∷
-    blockRow seven 3 1 (0, 2, 4 ∷ 5 ∷ 6 ∷ []) ∷
-    blockRow seven 3 2 (0, 3, 7 ∷ []) ∷
-    blockRow seven 3 3 (12, 0, []) ∷
+    blockRow seven 5 0 (0, 1, 1 ∷ 2 ∷ 3 ∷ []) ∷
+    blockRow seven 5 1 (0, 2, 4 ∷ 5 ∷ 6 ∷ []) ∷
+    blockRow seven 5 2 (0, 3, 7 ∷ []) ∷
+    blockRow seven 5 3 (12, 0, []) ∷
     -- A block as long as the data, one longer, and blocks of one byte.
-    blockRow seven 7 0 (0, 1, seven) ∷
-    blockRow seven 7 1 (12, 0, []) ∷
-    blockRow seven 8 0 (0, 1, seven) ∷
-    blockRow seven 1 6 (0, 7, 7 ∷ []) ∷
-    blockRow seven 1 7 (12, 0, []) ∷
-    -- "Order: 11, 12": length 0 also where there is no block; "Empty data has no blocks."
+    blockRow seven 9 0 (0, 1, seven) ∷
+    blockRow seven 9 1 (12, 0, []) ∷
+    blockRow seven 10 0 (0, 1, seven) ∷
+    blockRow seven 3 6 (0, 7, 7 ∷ []) ∷
+    blockRow seven 3 7 (12, 0, []) ∷
+    -- "Order: 11, 12": a length below 3 also where there is no block; "Empty data has no blocks."
     blockRow seven 0 0 (11, 0, []) ∷
-    blockRow seven 0 9 (11, 0, []) ∷
-    blockRow [] 0 0 (11, 0, []) ∷
-    blockRow [] 1 0 (12, 0, []) ∷
+    blockRow seven 1 0 (11, 0, []) ∷
+    blockRow seven 2 0 (11, 0, []) ∷
+    blockRow seven 2 9 (11, 0, []) ∷
+    blockRow [] 2 0 (11, 0, []) ∷
+    blockRow [] 3 0 (12, 0, []) ∷
     -- "so 0 follows 255"
-    blockRow (replicate 300 9) 1 254 (0, 255, 9 ∷ []) ∷
-    blockRow (replicate 300 9) 1 255 (0, 0, 9 ∷ []) ∷
-    blockRow (replicate 300 9) 1 256 (0, 1, 9 ∷ []) ∷ []
+    blockRow (replicate 300 9) 3 254 (0, 255, 9 ∷ []) ∷
+    blockRow (replicate 300 9) 3 255 (0, 0, 9 ∷ []) ∷
+    blockRow (replicate 300 9) 3 256 (0, 1, 9 ∷ []) ∷ []
 
 abbrev pub BlockRows : Type 0
 BlockRows = map cutting blockRows ≡ map (λ r. r .gives) blockRows

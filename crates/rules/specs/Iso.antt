@@ -88,6 +88,10 @@ Request s r = Message r × RequestFormat s r
 abbrev pub BlockLength : ℕ → List ℕ → List ℕ → Type 0
 BlockLength sid n r = FieldLength n × (r ≡ sid ∷ nibbles (length n) 0 ∷ n)
 
+-- §14.2.3: maxNumberOfBlockLength counts every byte of a TransferData request, the SID and the counter included.
+abbrev pub WithinBlockLength : ℕ → List ℕ → Type 0
+WithinBlockLength maxNumberOfBlockLength r = length r ≤ maxNumberOfBlockLength
+
 -- §9.3.3: powerDownTime is present only for type 04.
 abbrev pub PowerDownTime : ℕ → List ℕ → Type 0
 PowerDownTime t d = (t ≡ 0x04 → length d ≡ 1) × (t ≢ 0x04 → d ≡ [])

@@ -1,5 +1,5 @@
 -- The layouts: document 01's requests and strict positives are the standard's, for the arguments named here.
-use Prim.Native.Nat.{ℕ, _%_, _^_, _≤_, _<_}
+use Prim.Native.Nat.{ℕ, _+_, _*_, _%_, _^_, _≤_, _<_}
 use mathlib.Core.Bool.{Bool, true, cond}
 use mathlib.Core.Path.{_≡_}
 use mathlib.Core.Logic.{_≢_, _↔_}
@@ -8,6 +8,7 @@ use mathlib.Core.Option.{Option, none, some}
 use lib.Dec.{eqb}
 use lib.ListN.{length, take, drop}
 use Rattle.rules.specs.Answers.{Part, negative}
+use Rattle.rules.specs.Blocks.{block, counter, carried}
 use Rattle.rules.specs.Bytes.{value, every, isByte}
 use Rattle.rules.specs.Calls.{Call, request, session, reset, security, testerPresent, readMemory, writeMemory, readIdentifier, writeIdentifier, faultCount, routine, download, upload, transfer, transferExit, Field, given, alfid, sent, orNone, loads, positiveSid, sidOf, requestOf}
 use Rattle.rules.specs.Client.{call}
@@ -70,7 +71,7 @@ standard (faultCount mask) = like (λ q. Iso.ReportNumberOfDTCByStatusMask q mas
 standard (routine sub id d) = like (λ q. Iso.RoutineControl q (sub % 128) id (orNone d)) (U8 sub × U16 id × Bytes (orNone d)) Any
 standard (download c e a s) = like (λ q. Iso.RequestDownload c e (sent a) (sent s)) (Fields a s) Any
 standard (upload c e a s) = like (λ q. Iso.RequestUpload c e (sent a) (sent s)) (Fields a s) Any
-standard (transfer counter d) = like (λ q. Iso.TransferData (direction d) counter (orNone d)) (U8 counter × Bytes (orNone d)) Any
+standard (transfer k d) = like (λ q. Iso.TransferData (direction d) k (orNone d)) (U8 k × Bytes (orNone d)) Any
 standard (transferExit d) = like (λ q. Iso.RequestTransferExit (orNone d)) (Bytes (orNone d)) Any
 
 abbrev pub service : Setting → Call → Iso.Service
@@ -90,9 +91,14 @@ Beyond c d = loads c ≡ true → (3 ≤ value d) × (value d < 2 ^ 64)
 abbrev pub IsRow : Call → List ℕ → List ℕ → Type 0
 IsRow c r d = (head : List ℕ) × Positive c head d × (r ≡ head ++ d)
 
+-- Call 13 for block k of a download.
+abbrev pub transferOf : List ℕ → ℕ → ℕ → Call
+transferOf bytes n k = transfer (counter k) (some (block bytes n k))
+
 -- What a call leaves at the front of the request buffer, unless it is refused, is the standard's request; the rest keeps its bytes.
 -- The replies are of bytes (a call with others is refused). The notices and the negative closing are the standard's negative responses,
--- to the request as sent: those with responsePending, which is all that a conversation may hold before its closing, and those with another code.
+-- to the request as sent: those with responsePending, which is all that a conversation may hold before its closing, and those with another code. A block's transfer is
+-- within the block length that it was cut by, and uses it up unless it is the last.
 pub record Layouts : Type 0 where
   pub requests : (strict : Bool) (w : Setting) (c : Call) (l : Lent) → InRange c → Recorded c → ¬ Refused (call strict w c l .answer .outcome) →
       let n = length (requestOf (w .quiet) c) in
@@ -105,3 +111,7 @@ pub record Layouts : Type 0 where
   pub notices : (w : Setting) (c : Call) (t : ℕ) (p : Part) (es : List Event) (times : List ℕ) → Iso.Message (p .bytes)
       → Waiting (sidOf c) (reply t p ∷ es) times
       ↔ ((later : List ℕ) × (times ≡ t ∷ later) × Iso.NegativeResponse (requestOf (w .quiet) c) Iso.responsePending (p .bytes) × Waiting (sidOf c) es later)
+  pub blocks : (w : Setting) (bytes : List ℕ) (n k : ℕ) → Bytes bytes → 3 ≤ n → k * carried n < length bytes →
+      let c = transferOf bytes n k in
+      let r = requestOf (w .quiet) c in
+      Iso.Request (service w c) r × Iso.WithinBlockLength n r × ((k + 1) * carried n < length bytes → length r ≡ n)

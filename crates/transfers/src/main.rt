@@ -91,8 +91,8 @@ fn main() {
     let client = UDSClient::new();
     let mut request = [0u8; 64];
     let events = [0, 0, 0, 10, 0, 0, 0, 0, 0, 3];
-    // the controller takes blocks of four bytes
-    let replies = [0x74, 0x10, 0x04];
+    // the controller takes requests of six bytes: SID, counter and four bytes of data
+    let replies = [0x74, 0x10, 0x06];
     let started = client.request_download(
         0,
         0,

@@ -30,6 +30,9 @@ returns c =
     let t = c .before .enum-told2 .given in
     sym (refused-empty _ _ _ (t .0 .0) (sym (c .before .before .before .counter .ensures) ∙ t .1))
 
+sub-carried : tie.Need-sub-carried
+sub-carried c = omega (arith, inside c .long)
+
 mul-start : tie.Need-mul-start
 mul-start c = omega (arith, inside c .begins)
 
@@ -74,6 +77,7 @@ block-spec =
     enum-told-2
     slice-aggregate-result
     returns
+    sub-carried
     mul-start
     sub-if1
     add-end

@@ -18,6 +18,9 @@ returns-2 c = sym (refuses-number _ _ _ (omega arith) (omega arith))
 sub-if3 : tie.Need-sub-if3
 sub-if3 c = search needs
 
+sub-if3-2 : tie.Need-sub-if3-2
+sub-if3-2 c = search needs
+
 div-if3 : tie.Need-div-if3
 div-if3 c = search needs
 
@@ -44,6 +47,7 @@ counter-spec =
     returns
     returns-2
     sub-if3
+    sub-if3-2
     div-if3
     returns-3
     cast-wrapping-add-u8

@@ -1,4 +1,4 @@
--- `replay` is safe and ends. The invariant: each turn counts one log at most, so the counts fit.
+-- `replay` is safe and ends. The invariant: each turn counts one case at most, so the counts fit.
 use Prim.Native.Nat.{_+_, _≤_}
 use native.Mathlib.Omega.{arith}
 use mathlib.Core.Logic.{⊎-elim}
@@ -7,10 +7,10 @@ use Rattle.replay.proofs.replay.Statement.{statement}
 use Rattle.replay.proofs.replay.Tie as tie
 
 abbrev Inv-loop : tie.InvT-loop
-Inv-loop logs lines right₀ wrong₀ turns₀ right wrong turns = right + wrong + turns ≤ 4294967295
+Inv-loop list cases lines right₀ wrong₀ turns₀ right wrong turns = right + wrong + turns ≤ 4294967295
 
 abbrev μ-loop : tie.MeasureT-loop
-μ-loop logs lines right₀ wrong₀ turns₀ right wrong turns = turns
+μ-loop list cases lines right₀ wrong₀ turns₀ right wrong turns = turns
 
 loop-holds : tie.Need-loop-holds Inv-loop μ-loop
 loop-holds c = search needs
