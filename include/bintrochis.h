@@ -5,12 +5,15 @@
  * be called from any thread. No argument leads to anything undefined, as long as each pointer has as many bytes or numbers behind it as
  * its length says, no pointer is null, and what is written to (request, answer) overlaps nothing else.
  *
- * `crates/host/specs/Door.antt` and `Numbers.antt` are the definitions that the two functions are proved to equal. */
+ * `crates/host/specs/Door.antt` and `Numbers.antt` are the definitions that the two calling functions are proved to equal. The number of
+ * a negative code's name, for display, is in bintrochis_codes.h. */
 #ifndef BINTROCHIS_H
 #define BINTROCHIS_H
 
 #include <stddef.h>
 #include <stdint.h>
+
+#include "bintrochis_codes.h"
 
 #ifdef __cplusplus
 extern "C" {

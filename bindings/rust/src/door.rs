@@ -1,4 +1,4 @@
-//! The two functions of the proved library, as `include/bintrochis.h` says them. The only unsafe code stands here.
+//! The functions of the proved library, as `include/bintrochis.h` says them. The only unsafe code stands here.
 
 /// The numbers of an answer, by their places in it.
 pub mod number {
@@ -69,6 +69,8 @@ extern "C" {
         replies_length: usize,
         answer: *mut u64,
     ) -> u8;
+
+    fn bintrochis_name_number(code: u8) -> u8;
 }
 
 /// What stands in the fields of a log's header, and P2, P2* and T.
@@ -103,6 +105,12 @@ pub struct Lent<'l> {
     pub request: &'l mut [u8],
     pub events: &'l [u8],
     pub replies: &'l [u8],
+}
+
+/// The number of a negative code's name, or 0.
+pub fn name_number(code: u8) -> u8 {
+    // SAFETY: numbers alone go in and out.
+    unsafe { bintrochis_name_number(code) }
 }
 
 /// One call. `Lent` has exclusive use of what is written to, so nothing overlaps.

@@ -7,6 +7,9 @@
 
 #[allow(unsafe_code)]
 mod door;
+mod names;
+
+use std::fmt;
 
 use door::{number, Fields, Lent, Numbers};
 
@@ -126,13 +129,41 @@ pub enum ProtocolDeviation {
     InvalidMemoryRecordLength,
 }
 
+/// A negative response code, as the controller sends it. It displays as its name, or as its byte if it has none.
+#[derive(Debug, Clone, Copy, PartialEq, Eq, Hash)]
+pub struct NegativeResponseCode(pub u8);
+
+impl NegativeResponseCode {
+    /// The number of its name in the order of the Rust's enum, from 1; 0 where it has none.
+    pub fn number(self) -> u8 {
+        door::name_number(self.0)
+    }
+
+    /// Its name, if it has one.
+    pub fn name(self) -> Option<&'static str> {
+        match self.number() {
+            0 => None,
+            number => Some(names::NAMES[usize::from(number)]),
+        }
+    }
+}
+
+impl fmt::Display for NegativeResponseCode {
+    fn fmt(&self, f: &mut fmt::Formatter<'_>) -> fmt::Result {
+        match self.name() {
+            Some(name) => f.pad(name),
+            None => write!(f, "{:#04x}", self.0),
+        }
+    }
+}
+
 /// How a call ended. Data is a part of the lent reply bytes.
 #[derive(Debug, Clone, Copy, PartialEq, Eq)]
 pub enum Outcome<'r> {
     PositiveResponse(&'r [u8]),
     /// Silence, which was asked for.
     Suppressed,
-    NegativeResponse(u8),
+    NegativeResponse(NegativeResponseCode),
     Timeout,
     Disconnected,
     /// The number that the transport's error was given.
@@ -360,7 +391,7 @@ fn outcome<'r>(numbers: &Numbers, data: &'r [u8]) -> Outcome<'r> {
     match numbers[number::OUTCOME] {
         0 => Outcome::PositiveResponse(data),
         1 => Outcome::Suppressed,
-        2 => Outcome::NegativeResponse(detail as u8),
+        2 => Outcome::NegativeResponse(NegativeResponseCode(detail as u8)),
         3 => Outcome::Timeout,
         4 => Outcome::Disconnected,
         5 => Outcome::Transport(detail as u16),

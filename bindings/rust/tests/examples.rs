@@ -1,8 +1,8 @@
 //! The ten examples of document 01 through the bindings, the requests of all calls, and what the bindings add: enums, slices, a session.
 
 use bintrochis::{
-    Answer, Asked, Call, Config, Events, Memory, Outcome, ProtocolDeviation, Session,
-    LONGEST_REQUEST,
+    Answer, Asked, Call, Config, Events, Memory, NegativeResponseCode, Outcome, ProtocolDeviation,
+    Session, LONGEST_REQUEST,
 };
 
 const STRICT: Config = Config {
@@ -124,7 +124,7 @@ fn replies_to_a_suppressed_reset() {
         RESET,
         STRICT,
         &[(10, &[0x7f, 0x11, 0x22])],
-        Outcome::NegativeResponse(0x22),
+        Outcome::NegativeResponse(NegativeResponseCode::ConditionsNotCorrect),
         50,
     );
 }
@@ -459,4 +459,18 @@ fn the_session_is_set_by_call_1_alone() {
             p2_star: 5000
         }
     );
+}
+
+#[test]
+fn a_negative_code_displays_as_its_name() {
+    let pending = NegativeResponseCode::RequestCorrectlyReceivedResponsePending;
+    assert_eq!(pending, NegativeResponseCode(0x78));
+    assert_eq!(pending.number(), 20);
+    assert_eq!(
+        format!("{pending:>40}|"),
+        " RequestCorrectlyReceivedResponsePending|"
+    );
+    let nameless = NegativeResponseCode(0x00);
+    assert_eq!((nameless.number(), nameless.name()), (0, None));
+    assert_eq!(nameless.to_string(), "0x00");
 }

@@ -1,4 +1,5 @@
-// The door for C and Rust: one function for all calls on numbers and byte slices, and one for the `alfid` forms. include/bintrochis.h says it to C.
+// The door for C and Rust: one function for all calls on numbers and byte slices, one for the `alfid` forms, and the number of a negative
+// code's name. include/bintrochis.h says it to C.
 use exchange::types::Timing;
 use log_call::Fields;
 use log_call::ask_of;
@@ -6,6 +7,7 @@ use logs::header::Header;
 use numbers::numbers;
 use wire::part;
 ghost use mathlib.Core.Path.{_≡_};
+ghost use Rattle.rules.specs.Codes.{nameNumber};
 ghost use Rattle.logs.specs.Layout.{said};
 ghost use Rattle.calls.specs.Meaning.{lentOf};
 ghost use Rattle.host.specs.Door.{fields, fits, hasAlfid, InBytes, InNumbers};
@@ -170,4 +172,12 @@ pub extern "C" fn bintrochis_call_alfid(
     );
     *answer = numbers(x);
     0
+}
+
+// The number of a negative code's name, from 1, or 0.
+#[no_mangle]
+pub extern "C" fn bintrochis_name_number(code: u8) -> u8
+    ensures { λ r. ⌜ r ≡ nameNumber code ⌝ }
+{
+    codes::name_number(code)
 }

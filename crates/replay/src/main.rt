@@ -11,6 +11,7 @@ use wire::part;
 enum List {
     Logs,
     Blocks,
+    Names,
 }
 
 // The longest data that is cut; a line has its digits, and is longer than any line of a log.
@@ -98,10 +99,25 @@ fn block_line(case: &[u8], line: &mut [u8]) -> Written {
     }
 }
 
+// A negative code. The line: the code and the number of its name.
+fn name_line(case: &[u8], line: &mut [u8]) -> Written {
+    let code = wire::byte_at(case, 0);
+    put_line(
+        line,
+        b"name",
+        code as u64,
+        codes::name_number(code) as u64,
+        0,
+        b"",
+        b"",
+    )
+}
+
 fn line_of(list: List, case: &[u8], line: &mut [u8]) -> Written {
     match list {
         List::Logs => log_line::line_of(case, line),
         List::Blocks => block_line(case, line),
+        List::Names => name_line(case, line),
     }
 }
 
@@ -179,4 +195,7 @@ fn main() {
     let blocks = os::open_read(b"blocks.bin");
     let block_lines = os::open_read(b"blocks.expected");
     say(b"blocks", replay(List::Blocks, blocks, block_lines));
+    let names = os::open_read(b"names.bin");
+    let name_lines = os::open_read(b"names.expected");
+    say(b"names", replay(List::Names, names, name_lines));
 }

@@ -14,6 +14,7 @@ pub mod RequestRows
 pub mod RefusalRows
 pub mod LogRows
 pub mod BlockRows
+pub mod CodeRows
 pub mod Layouts
 pub mod Unique
 pub mod Counts

@@ -14,6 +14,7 @@ pub mod Conversations
 pub mod Lines
 pub mod Logs
 pub mod Blocks
+pub mod Codes
 pub mod Demand1
 pub mod Demand3
 pub mod Examples
@@ -28,4 +29,5 @@ pub mod RequestRows
 pub mod RefusalRows
 pub mod LogRows
 pub mod BlockRows
+pub mod CodeRows
 pub mod Writing

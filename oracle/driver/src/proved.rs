@@ -161,7 +161,7 @@ fn outcome_of(answer: &Answer<'_, '_>, replies: &[u8]) -> (Outcome, Option<Place
             return (Outcome::Positive(Data::Bytes(data.to_vec())), Some(place));
         }
         Proved::Suppressed => Outcome::Suppressed,
-        Proved::NegativeResponse(code) => Outcome::Negative(code),
+        Proved::NegativeResponse(code) => Outcome::Negative(code.0),
         Proved::Timeout => Outcome::Timeout,
         Proved::Disconnected => Outcome::Disconnected,
         Proved::Transport(number) => Outcome::Transport(number),
