@@ -33,12 +33,18 @@ pub fn block_length(bytes: &[u8]) -> Number
     Number::Value(v)
 }
 
-// "M is the value of the size bytes", and all of them count.
+// "M is the value of the size bytes", and all of them count: from the last byte backwards, done as soon as one decides.
 pub fn record_length_is(size: &[u8], length: usize) -> bool
     ensures { λ r. ⌜ r ≡ eqb length (value (now (size .entry))) ⌝ }
 {
-    match block_length(size) {
-        Number::Value(m) => length as u64 == m,
-        Number::Overflow => false,
+    let mut left = length as u64;
+    let mut i = size.len();
+    while i > 0 {
+        i -= 1;
+        if left % 256 != wide(size[i]) {
+            return false;
+        }
+        left = left / 256;
     }
+    left == 0
 }
