@@ -10,6 +10,7 @@
 #ifndef BINTROCHIS_H
 #define BINTROCHIS_H
 
+#include <stdbool.h>
 #include <stddef.h>
 #include <stdint.h>
 
@@ -117,10 +118,11 @@ uint8_t bintrochis_call(uint8_t call, uint8_t flags, uint16_t value, uint8_t sub
                         size_t request_length, const uint8_t *events, size_t events_length, const uint8_t *replies, size_t replies_length,
                         uint64_t BINTROCHIS_ANSWER(answer));
 
-/* Calls 5, 6, 11 and 12 with address and size as numbers, each with a width in bytes. Refusals 6 and 7 come from here alone. */
+/* Calls 5, 6, 11 and 12 with address and size as numbers, each with a width in bytes: 1 to 8 or, if `wide`, 1 to 15, padded with zeros on
+ * the left. Refusals 6 and 7 come from here alone. */
 uint8_t bintrochis_call_alfid(uint8_t call, uint8_t flags, uint16_t value, uint64_t address, uint64_t size, size_t address_width,
-                              size_t size_width, uint32_t p2, uint32_t p2_star, uint32_t overall, const uint8_t *data, size_t data_length,
-                              uint8_t *request, size_t request_length, const uint8_t *events, size_t events_length, const uint8_t *replies,
+                              size_t size_width, bool wide, uint32_t p2, uint32_t p2_star, uint32_t overall, const uint8_t *data,
+                              size_t data_length, uint8_t *request, size_t request_length, const uint8_t *events, size_t events_length, const uint8_t *replies,
                               size_t replies_length, uint64_t BINTROCHIS_ANSWER(answer));
 
 #ifdef __cplusplus

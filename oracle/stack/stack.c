@@ -36,7 +36,7 @@ static void in_bytes(void) {
 }
 
 static void in_numbers(void) {
-    result = bintrochis_call_alfid(header[2], header[3], header[2] > 10 ? 0x0102 : 0, 0x0102030405060708, 0x1112131415161718, 8, 8, 50, 5000, 0, arguments,
+    result = bintrochis_call_alfid(header[2], header[3], header[2] > 10 ? 0x0102 : 0, 0x0102030405060708, 0x1112131415161718, 8, 8, false, 50, 5000, 0, arguments,
                                    argument_count, request, sizeof request, events, event_bytes, replies, reply_count, answer);
 }
 

@@ -9,6 +9,7 @@ fn main() {
         server_timing: true,
         suppressed: false,
         overall: None,
+        wide: false,
     };
     let asked = Asked::new(&call, &config);
     let mut session = Session {

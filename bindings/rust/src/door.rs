@@ -56,6 +56,7 @@ extern "C" {
         size: u64,
         address_width: usize,
         size_width: usize,
+        wide: bool,
         p2: u32,
         p2_star: u32,
         overall: u32,
@@ -96,6 +97,7 @@ pub enum Memory {
         size: u64,
         address_width: usize,
         size_width: usize,
+        wide: bool,
     },
 }
 
@@ -158,6 +160,7 @@ pub fn call(fields: Fields, [p2, p2_star]: [u32; 2], lent: Lent<'_>, answer: &mu
                 size,
                 address_width,
                 size_width,
+                wide,
             } => bintrochis_call_alfid(
                 call,
                 flags,
@@ -166,6 +169,7 @@ pub fn call(fields: Fields, [p2, p2_star]: [u32; 2], lent: Lent<'_>, answer: &mu
                 size,
                 address_width,
                 size_width,
+                wide,
                 p2,
                 p2_star,
                 overall,
@@ -340,6 +344,7 @@ mod tests {
                         size: 1,
                         address_width: 1,
                         size_width: 1,
+                        wide: false,
                     },
                     ..read()
                 },

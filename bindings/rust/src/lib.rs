@@ -32,6 +32,8 @@ pub struct Config {
     pub suppressed: bool,
     /// The overall timeout T, in milliseconds since sending; none if left out.
     pub overall: Option<u32>,
+    /// The `alfid` forms take widths of 1 to 15 bytes, padded with zeros on the left, and not only of 1 to 8.
+    pub wide: bool,
 }
 
 /// Address and size: bytes, or numbers with a width in bytes each.
@@ -319,6 +321,7 @@ impl Asked {
                 size,
                 address_width,
                 size_width,
+                wide: config.wide,
             },
         };
         arguments.extend(data.unwrap_or_default());

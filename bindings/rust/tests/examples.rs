@@ -10,6 +10,7 @@ const STRICT: Config = Config {
     server_timing: true,
     suppressed: false,
     overall: None,
+    wide: false,
 };
 const LENIENT: Config = Config {
     strict: false,
@@ -473,4 +474,32 @@ fn a_negative_code_displays_as_its_name() {
     let nameless = NegativeResponseCode(0x00);
     assert_eq!((nameless.number(), nameless.name()), (0, None));
     assert_eq!(nameless.to_string(), "0x00");
+}
+
+#[test]
+fn widths_up_to_fifteen_under_the_wide_setting() {
+    let call = Call::ReadMemoryByAddress {
+        memory: Memory::Alfid {
+            address: 1,
+            size: 0x10,
+            address_width: 9,
+            size_width: 1,
+        },
+    };
+    let answered = |config: &Config| {
+        let mut buffer = [0; LONGEST_REQUEST];
+        let mut session = Session {
+            p2: 50,
+            p2_star: 5000,
+        };
+        let answer = Asked::new(&call, config).answer(&mut session, &mut buffer, &[], &[]);
+        (answer.outcome == Outcome::Refused(6), answer.request.to_vec())
+    };
+    let wide = Config {
+        wide: true,
+        ..STRICT
+    };
+    let request = vec![0x23, 0x19, 0, 0, 0, 0, 0, 0, 0, 0, 1, 0x10];
+    assert_eq!(answered(&wide), (false, request));
+    assert_eq!(answered(&STRICT), (true, vec![]));
 }

@@ -18,13 +18,13 @@ use Rattle.rules.specs.Refusals.{width}
 use Rattle.rules.specs.Settings.{Setting, Lent}
 use Rattle.wire.specs.Memory.{memoryBytes, refused}
 use Rattle.wire.specs.declared.MemoryBytes.{MemoryBytes}
-use Rattle.wire.proofs.Numbers.{bytes-length}
 use Rattle.requests.specs.Meaning.{callFrom}
 use Rattle.requests.specs.Prepared.{first}
 use Rattle.requests.specs.Rows.{rowOf, takesMemory}
 use Rattle.requests.specs.declared.Call.{Call}
 use Rattle.requests.specs.declared.Call.the-variants as call-of
 use Rattle.rules.proofs.Judging.{judge-append}
+use Rattle.rules.proofs.Wide.{bytes-length}
 use Rattle.requests.proofs.Judging.{by-number}
 use Rattle.requests.proofs.Refusals.{non-zero-width}
 use Rattle.calls.specs.Meaning.{settingOf, refusedOf, Called}
@@ -76,14 +76,14 @@ module _ (strict : Bool) (w : Setting) (l : Lent) (a s : Field) (d : List ℕ) w
   widths (call-of.RequestTransferExit x) h = absurd (false≢true h)
 
 -- What `memory_bytes` answers: the first refusal of the field, or its bytes.
-module _ (v w : ℕ) where
-  told : memoryBytes v w ≡ cond (eqb (first (width (alfid v w))) 0) (record { refusal = 0; len = w; bytes = bytesOf w v ++ replicate (15 - w) 0 }) (refused (first (width (alfid v w))))
+module _ (v w : ℕ) (wide : Bool) where
+  told : memoryBytes v w wide ≡ cond (eqb (first (width (alfid v w wide))) 0) (record { refusal = 0; len = w; bytes = bytesOf w v ++ replicate (15 - w) 0 }) (refused (first (width (alfid v w wide))))
   unfolding memoryBytes
-  told = by-number refused (width (alfid v w)) _ (non-zero-width (alfid v w))
+  told = by-number refused (width (alfid v w wide)) _ (non-zero-width (alfid v w wide))
 
-  module _ {x : MemoryBytes} (is : x ≡ memoryBytes v w) where
-    refusal-of : first (width (alfid v w)) ≡ x .refusal
-    refusal-of = sym (ap (λ (y : MemoryBytes). y .refusal) (is ∙ told) ∙ go (first (width (alfid v w))) (eqb (first (width (alfid v w))) 0) refl)
+  module _ {x : MemoryBytes} (is : x ≡ memoryBytes v w wide) where
+    refusal-of : first (width (alfid v w wide)) ≡ x .refusal
+    refusal-of = sym (ap (λ (y : MemoryBytes). y .refusal) (is ∙ told) ∙ go (first (width (alfid v w wide))) (eqb (first (width (alfid v w wide))) 0) refl)
       where
         go : (f : ℕ) (b : Bool) → eqb f 0 ≡ b → cond b (record { refusal = 0; len = w; bytes = bytesOf w v ++ replicate (15 - w) 0 }) (refused f) .refusal ≡ f
         go f true t = sym (eqb-true f 0 t)
@@ -92,12 +92,12 @@ module _ (v w : ℕ) where
     bytes-of : x .refusal ≡ 0 → take (x .len) (drop 0 (x .bytes)) ≡ bytesOf w v
     bytes-of passed =
         let whole : x ≡ record { refusal = 0; len = w; bytes = bytesOf w v ++ replicate (15 - w) 0 } =
-        is ∙ told ∙ rw (eq-eqb (first (width (alfid v w))) 0 (refusal-of ∙ passed))
+        is ∙ told ∙ rw (eq-eqb (first (width (alfid v w wide))) 0 (refusal-of ∙ passed))
         in
         ap (λ (y : MemoryBytes). take (y .len) (y .bytes)) whole ∙
         take-at (bytesOf w v) (replicate (15 - w) 0) w (bytes-length w v)
 
--- What the `alfid` form is given: the session, what is asked, address and size as numbers with their widths, data, and what is lent.
+-- What the `alfid` form is given: the session, what is asked, address and size as numbers with their widths, the wide setting, data, and what is lent.
 pub record Given : Type 0 where
   pub session : Timing
   pub ask : Ask
@@ -105,8 +105,15 @@ pub record Given : Type 0 where
   pub u : ℕ
   pub w : ℕ
   pub w′ : ℕ
+  pub wide : Bool
   pub d : List ℕ
   pub lent : Lent
+
+abbrev address : Given → Field
+address g = alfid (g .v) (g .w) (g .wide)
+
+abbrev size : Given → Field
+size g = alfid (g .u) (g .w′) (g .wide)
 
 module _ (g : Given) where
   abbrev setting : Setting
@@ -116,7 +123,7 @@ module _ (g : Given) where
   with′ a s = callFrom (g .ask .call) a s (g .d)
 
   abbrev asked : rules.Call
-  asked = with′ (alfid (g .v) (g .w)) (alfid (g .u) (g .w′))
+  asked = with′ (address g) (size g)
 
   abbrev done : rules.Call → Result
   done c = call (g .ask .strict) setting c (g .lent)
@@ -135,27 +142,27 @@ module _ (g : Given) where
 
   module _ (takes : takesMemory (rowOf (g .ask .call) .takes) ≡ true) where
     by-numbers : done asked ≡
-        cond (eqb (first (width (alfid (g .v) (g .w)))) 0)
-        (cond (eqb (first (width (alfid (g .u) (g .w′)))) 0) (done (with′ (given (bytesOf (g .w) (g .v))) (given (bytesOf (g .w′) (g .u))))) (refuse setting (g .lent) (first (width (alfid (g .u) (g .w′))))))
-        (refuse setting (g .lent) (first (width (alfid (g .v) (g .w)))))
+        cond (eqb (first (width (address g))) 0)
+        (cond (eqb (first (width (size g))) 0) (done (with′ (given (bytesOf (g .w) (g .v))) (given (bytesOf (g .w′) (g .u))))) (refuse setting (g .lent) (first (width (size g)))))
+        (refuse setting (g .lent) (first (width (address g))))
     by-numbers =
-        widths (g .ask .strict) setting (g .lent) (alfid (g .v) (g .w)) (alfid (g .u) (g .w′)) (g .d) (g .ask .call) takes ∙
-        by-number (refuse setting (g .lent)) (width (alfid (g .v) (g .w))) _ (non-zero-width (alfid (g .v) (g .w))) ∙
-        rw (by-number (refuse setting (g .lent)) (width (alfid (g .u) (g .w′))) (done (with′ (given (bytesOf (g .w) (g .v))) (given (bytesOf (g .w′) (g .u))))) (non-zero-width (alfid (g .u) (g .w′))))
+        widths (g .ask .strict) setting (g .lent) (address g) (size g) (g .d) (g .ask .call) takes ∙
+        by-number (refuse setting (g .lent)) (width (address g)) _ (non-zero-width (address g)) ∙
+        rw (by-number (refuse setting (g .lent)) (width (size g)) (done (with′ (given (bytesOf (g .w) (g .v))) (given (bytesOf (g .w′) (g .u))))) (non-zero-width (size g)))
 
-    module _ {a : MemoryBytes} (as-address : a ≡ memoryBytes (g .v) (g .w)) where
+    module _ {a : MemoryBytes} (as-address : a ≡ memoryBytes (g .v) (g .w) (g .wide)) where
       pub address-refused : (a .refusal ≡ 0 → ⊥) → Means asked (refusedOf (g .session) (a .refusal)) (g .lent .buffer)
-      address-refused h = turned (by-numbers ∙ rw (refusal-of _ _ as-address, ne-eqb _ 0 h))
+      address-refused h = turned (by-numbers ∙ rw (refusal-of _ _ _ as-address, ne-eqb _ 0 h))
 
-      module _ (address-passed : a .refusal ≡ 0) {s : MemoryBytes} (as-size : s ≡ memoryBytes (g .u) (g .w′)) where
+      module _ (address-passed : a .refusal ≡ 0) {s : MemoryBytes} (as-size : s ≡ memoryBytes (g .u) (g .w′) (g .wide)) where
         pub size-refused : (s .refusal ≡ 0 → ⊥) → Means asked (refusedOf (g .session) (s .refusal)) (g .lent .buffer)
-        size-refused h = turned (by-numbers ∙ rw (refusal-of _ _ as-address, address-passed, refusal-of _ _ as-size, ne-eqb _ 0 h))
+        size-refused h = turned (by-numbers ∙ rw (refusal-of _ _ _ as-address, address-passed, refusal-of _ _ _ as-size, ne-eqb _ 0 h))
 
-        pub as-bytes : {address size b : List ℕ} {r : Answered} → s .refusal ≡ 0
-            → address ≡ take (a .len) (drop 0 (a .bytes)) → size ≡ take (s .len) (drop 0 (s .bytes))
-            → Means (with′ (given address) (given size)) r b → Means asked r b
+        pub as-bytes : {address′ size′ b : List ℕ} {r : Answered} → s .refusal ≡ 0
+            → address′ ≡ take (a .len) (drop 0 (a .bytes)) → size′ ≡ take (s .len) (drop 0 (s .bytes))
+            → Means (with′ (given address′) (given size′)) r b → Means asked r b
         as-bytes size-passed x y =
             let in-bytes : done asked ≡ done (with′ (given (bytesOf (g .w) (g .v))) (given (bytesOf (g .w′) (g .u)))) =
-            by-numbers ∙ rw (refusal-of _ _ as-address, address-passed, refusal-of _ _ as-size, size-passed)
+            by-numbers ∙ rw (refusal-of _ _ _ as-address, address-passed, refusal-of _ _ _ as-size, size-passed)
             in
-            moved (ap₂ (λ (p q : List ℕ). done (with′ (given p) (given q))) (x ∙ bytes-of _ _ as-address address-passed) (y ∙ bytes-of _ _ as-size size-passed) ∙ sym in-bytes)
+            moved (ap₂ (λ (p q : List ℕ). done (with′ (given p) (given q))) (x ∙ bytes-of _ _ _ as-address address-passed) (y ∙ bytes-of _ _ _ as-size size-passed) ∙ sym in-bytes)

@@ -172,7 +172,8 @@ fn takes_memory(takes: Takes) -> bool
     }
 }
 
-// The `alfid` form: "address and size as 64-bit numbers, each with a width in bytes, sent high byte first". Other calls take neither.
+// The `alfid` form: "address and size as 64-bit numbers, each with a width in bytes, sent high byte first". Under the wide setting widths 1 to
+// 15 are taken, "padded with zeros on the left". Other calls take neither.
 pub fn run_alfid(
     session: Timing,
     ask: Ask,
@@ -181,11 +182,12 @@ pub fn run_alfid(
     size: u64,
     address_width: usize,
     size_width: usize,
+    wide: bool,
     data: &[u8],
     events: &[u8],
     replies: &[u8],
 ) -> Answered
-    ensures { λ r. ⌜ Called (ask .strict) (settingOf ask session) (callFrom (ask .call) (alfid address «address_width») (alfid size «size_width») (now («data» .entry))) (lentOf (now (request .entry)) (now (events .entry)) (now (replies .entry))) r (now (request .exit)) ⌝ }
+    ensures { λ r. ⌜ Called (ask .strict) (settingOf ask session) (callFrom (ask .call) (alfid address «address_width» wide) (alfid size «size_width» wide) (now («data» .entry))) (lentOf (now (request .entry)) (now (events .entry)) (now (replies .entry))) r (now (request .exit)) ⌝ }
 {
     let call = ask.call;
     let row = row_of(call);
@@ -193,12 +195,12 @@ pub fn run_alfid(
     if !takes_memory(takes) {
         return run(session, ask, request, b"", b"", data, events, replies);
     }
-    let a = wire::memory_bytes(address, address_width);
+    let a = wire::memory_bytes(address, address_width, wide);
     let number = a.refusal;
     if number != 0 {
         return refused(session, number);
     }
-    let s = wire::memory_bytes(size, size_width);
+    let s = wire::memory_bytes(size, size_width, wide);
     let number = s.refusal;
     if number != 0 {
         return refused(session, number);

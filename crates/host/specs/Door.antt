@@ -67,11 +67,11 @@ pub record Served (asks : Bool) (x : Result) (before told : List ℕ) (r : ℕ) 
   pub request : after′ ≡ cond asks (x .buffer) before
   pub answer : told′ ≡ cond asks (numbersOf x) told
 
--- With argument bytes; in the `alfid` form with address and size as numbers v and u of widths w and w′, and data.
+-- With argument bytes; in the `alfid` form with address and size as numbers v and u of widths w and w′, the wide setting, and data.
 abbrev pub InBytes : Header → List ℕ → Lent → List ℕ → ℕ → List ℕ → List ℕ → Type 0
 InBytes h l lent answer r request′ answer′ =
     Served (asksOne h (length l)) (asked h (addressIn h l) (sizeIn h l) (dataIn h l) lent) (lent .buffer) answer r request′ answer′
 
-abbrev pub InNumbers : Header → ℕ → ℕ → ℕ → ℕ → List ℕ → Lent → List ℕ → ℕ → List ℕ → List ℕ → Type 0
-InNumbers h v u w w′ d lent answer r request′ answer′ =
-    Served (hasAlfid (h .call) && asksOne h (length d)) (asked h (alfid v w) (alfid u w′) d lent) (lent .buffer) answer r request′ answer′
+abbrev pub InNumbers : Header → ℕ → ℕ → ℕ → ℕ → Bool → List ℕ → Lent → List ℕ → ℕ → List ℕ → List ℕ → Type 0
+InNumbers h v u w w′ wide d lent answer r request′ answer′ =
+    Served (hasAlfid (h .call) && asksOne h (length d)) (asked h (alfid v w wide) (alfid u w′ wide) d lent) (lent .buffer) answer r request′ answer′

@@ -126,7 +126,8 @@ pub extern "C" fn bintrochis_call(
     0
 }
 
-// The same for the `alfid` forms of calls 5, 6, 11 and 12: "address and size as 64-bit numbers, each with a width in bytes".
+// The same for the `alfid` forms of calls 5, 6, 11 and 12: "address and size as 64-bit numbers, each with a width in bytes", and the
+// wide setting.
 #[no_mangle]
 pub extern "C" fn bintrochis_call_alfid(
     call: u8,
@@ -136,6 +137,7 @@ pub extern "C" fn bintrochis_call_alfid(
     size: u64,
     address_width: usize,
     size_width: usize,
+    wide: bool,
     p2: u32,
     p2_star: u32,
     overall: u32,
@@ -145,7 +147,7 @@ pub extern "C" fn bintrochis_call_alfid(
     replies: &[u8],
     answer: &mut [u64; 15],
 ) -> u8
-    ensures { λ r. ⌜ InNumbers (fields call flags value 0 0 0 p2 «p2_star» overall) address size «address_width» «size_width» (now («data» .entry)) (lentOf (now (request .entry)) (now (events .entry)) (now (replies .entry))) (now (answer .entry)) r (now (request .exit)) (now (answer .exit)) ⌝ }
+    ensures { λ r. ⌜ InNumbers (fields call flags value 0 0 0 p2 «p2_star» overall) address size «address_width» «size_width» wide (now («data» .entry)) (lentOf (now (request .entry)) (now (events .entry)) (now (replies .entry))) (now (answer .entry)) r (now (request .exit)) (now (answer .exit)) ⌝ }
 {
     let h = fields(call, flags, value, 0, 0, 0, p2, p2_star, overall);
     if !has_alfid(call) {
@@ -166,6 +168,7 @@ pub extern "C" fn bintrochis_call_alfid(
         size,
         address_width,
         size_width,
+        wide,
         data,
         events,
         replies,

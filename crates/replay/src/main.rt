@@ -12,6 +12,8 @@ enum List {
     Logs,
     Blocks,
     Names,
+    Memory,
+    Alfid,
 }
 
 // The longest data that is cut; a line has its digits, and is longer than any line of a log.
@@ -113,11 +115,66 @@ fn name_line(case: &[u8], line: &mut [u8]) -> Written {
     )
 }
 
+// A value and a width, eight bytes each, and the wide setting. The line: refusal, length and bytes.
+fn memory_line(case: &[u8], line: &mut [u8]) -> Written {
+    let width = number(part(case, 8, 8)) as usize;
+    let wide = wire::byte_at(case, 16) == 1;
+    let memory = wire::memory_bytes(number(part(case, 0, 8)), width, wide);
+    let bytes = memory.bytes;
+    let len = memory.len;
+    put_line(
+        line,
+        b"memory",
+        memory.refusal as u64,
+        len as u64,
+        0,
+        b"",
+        part(&bytes, 0, len),
+    )
+}
+
+// The call and its flags, the methods, address, size and their widths, the wide setting and data, through the door. The line: refusal,
+// length and bytes of the request.
+fn alfid_line(case: &[u8], line: &mut [u8]) -> Written {
+    let mut request = [0u8; 4095];
+    let mut answer = [0u64; 15];
+    host::bintrochis_call_alfid(
+        wire::byte_at(case, 0),
+        wire::byte_at(case, 1),
+        wire::u16_at(case, 2),
+        number(part(case, 4, 8)),
+        number(part(case, 12, 8)),
+        number(part(case, 20, 8)) as usize,
+        number(part(case, 28, 8)) as usize,
+        wire::byte_at(case, 36) == 1,
+        50,
+        5000,
+        0,
+        part(case, 37, case.len()),
+        &mut request,
+        b"",
+        b"",
+        &mut answer,
+    );
+    let sent = answer[14];
+    put_line(
+        line,
+        b"alfid",
+        answer[1],
+        sent,
+        0,
+        b"",
+        part(&request, 0, sent as usize),
+    )
+}
+
 fn line_of(list: List, case: &[u8], line: &mut [u8]) -> Written {
     match list {
         List::Logs => log_line::line_of(case, line),
         List::Blocks => block_line(case, line),
         List::Names => name_line(case, line),
+        List::Memory => memory_line(case, line),
+        List::Alfid => alfid_line(case, line),
     }
 }
 
@@ -198,4 +255,10 @@ fn main() {
     let names = os::open_read(b"names.bin");
     let name_lines = os::open_read(b"names.expected");
     say(b"names", replay(List::Names, names, name_lines));
+    let memory = os::open_read(b"memory.bin");
+    let memory_lines = os::open_read(b"memory.expected");
+    say(b"memory", replay(List::Memory, memory, memory_lines));
+    let alfid = os::open_read(b"alfid.bin");
+    let alfid_lines = os::open_read(b"alfid.expected");
+    say(b"alfid", replay(List::Alfid, alfid, alfid_lines));
 }

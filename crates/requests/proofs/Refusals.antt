@@ -17,7 +17,7 @@ use Rattle.requests.proofs.Judging.{NonZero, non-zero-append, by-number
 
 pub non-zero-width : (f : Field) → NonZero (width f)
 non-zero-width (given bs) = tt
-non-zero-width (alfid v w) = (refl, (refl, tt))
+non-zero-width (alfid v w wide) = (refl, (refl, tt))
 
 non-zero-memory : (a s : Field) (cs : List (Check ℕ)) → NonZero cs → NonZero (width a ++ width s ++ cs)
 non-zero-memory a s cs n = non-zero-append (width a ++ width s) cs (non-zero-append (width a) (width s) (non-zero-width a) (non-zero-width s)) n

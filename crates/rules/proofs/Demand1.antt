@@ -31,7 +31,7 @@ module _ (ns : List ℕ) where
   module _ (six : among ns 6 ≡ true) (seven : among ns 7 ≡ true) where
     widths : (a : Field) → Among ns (width a)
     widths (given bs) = tt
-    widths (alfid v w) = (six, (seven, tt))
+    widths (alfid v w wide) = (six, (seven, tt))
 
     fields : (a s : Field) (cs : List (Check ℕ)) → Among ns cs → Among ns (width a ++ width s ++ cs)
     fields a s cs h = join (width a ++ width s) cs (join (width a) (width s) (widths a) (widths s)) h

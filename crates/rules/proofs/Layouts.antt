@@ -55,7 +55,7 @@ number-bytes (suc w) v = byte-cons (v / 256 ^ w % 256) (bytesOf w v) (omega arit
 
 field-bytes : (a : Field) → OfBytes a → Bytes (sent a)
 field-bytes (given bs) h = h
-field-bytes (alfid v w) h = number-bytes w v
+field-bytes (alfid v w wide) h = number-bytes w v
 
 sub-bytes : (quiet : Bool) (sub : ℕ) (l : List ℕ) → sub < 256 → Bytes l → Bytes (byte (withBit7 quiet (some sub)) ++ l)
 sub-bytes true sub l h k = byte-cons (sub % 128 + 128) l (omega arith) k

@@ -15,6 +15,7 @@ pub mod RefusalRows
 pub mod LogRows
 pub mod BlockRows
 pub mod CodeRows
+pub mod Wide
 pub mod Layouts
 pub mod Unique
 pub mod Counts

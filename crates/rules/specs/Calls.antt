@@ -8,15 +8,15 @@ use lib.Dec.{leb, eqb}
 use lib.ListN.{length}
 use Rattle.rules.specs.Bytes.{bytesOf, two}
 
--- An address or a size: bytes, or in an `alfid` form a number and a width.
+-- An address or a size: bytes, or in an `alfid` form a number, a width and the wide setting.
 pub data Field : Type 0 where
   given : List ℕ → Field
-  alfid : ℕ → ℕ → Field
+  alfid : ℕ → ℕ → Bool → Field
 
 -- "sent high byte first"
 abbrev pub sent : Field → List ℕ
 sent (given bs) = bs
-sent (alfid v w) = bytesOf w v
+sent (alfid v w wide) = bytesOf w v
 
 -- The calls 0 to 14 with their arguments. Data that may be absent is an option: absent is not empty.
 pub data Call : Type 0 where

@@ -34,7 +34,7 @@ Bytes l = every isByte l ≡ true
 
 abbrev pub OfBytes : Field → Type 0
 OfBytes (given bs) = Bytes bs
-OfBytes (alfid v w) = Any
+OfBytes (alfid v w wide) = Any
 
 abbrev pub Fields : Field → Field → Type 0
 Fields a s = OfBytes a × OfBytes s

@@ -30,4 +30,5 @@ pub mod RefusalRows
 pub mod LogRows
 pub mod BlockRows
 pub mod CodeRows
+pub mod Wide
 pub mod Writing

@@ -151,14 +151,14 @@ requests =
     whole false (setting none true) (session 0x03) (says 10 (0x50 ∷ 0x03 ∷ 0x00 ∷ 0x19 ∷ 0x01 ∷ 0xf5 ∷ []) ∷ []) (gives (positive (part 2 (0x00 ∷ 0x19 ∷ 0x01 ∷ 0xf5 ∷ []))) 50 1 0 0) (25, 5010) (0x10 ∷ 0x83 ∷ []) ∷
     whole true (setting none true) testerPresent ([]) (gives suppressed 50 0 0 0) (50, 5000) (0x3e ∷ 0x80 ∷ []) ∷
     whole true (setting none true) (readIdentifier 0xf190) ([]) (gives timeout 50 0 0 0) (50, 5000) (0x22 ∷ 0xf1 ∷ 0x90 ∷ []) ∷
-    whole true usual (readMemory (alfid 0x1234 4) (alfid 0x10 2)) ([]) (gives timeout 50 0 0 0) (50, 5000) (0x23 ∷ 0x24 ∷ 0x00 ∷ 0x00 ∷ 0x12 ∷ 0x34 ∷ 0x00 ∷ 0x10 ∷ []) ∷
+    whole true usual (readMemory (alfid 0x1234 4 false) (alfid 0x10 2 false)) ([]) (gives timeout 50 0 0 0) (50, 5000) (0x23 ∷ 0x24 ∷ 0x00 ∷ 0x00 ∷ 0x12 ∷ 0x34 ∷ 0x00 ∷ 0x10 ∷ []) ∷
     whole true usual written ([]) (gives timeout 50 0 0 0) (50, 5000) (0x3d ∷ 0x12 ∷ 0x20 ∷ 0x00 ∷ 0x01 ∷ 0xaa ∷ []) ∷
-    whole true usual (upload 15 15 (given (0x01 ∷ [])) (alfid 255 1)) ([]) (gives timeout 50 0 0 0) (50, 5000) (0x35 ∷ 0xff ∷ 0x11 ∷ 0x01 ∷ 0xff ∷ []) ∷ []
+    whole true usual (upload 15 15 (given (0x01 ∷ [])) (alfid 255 1 false)) ([]) (gives timeout 50 0 0 0) (50, 5000) (0x35 ∷ 0xff ∷ 0x11 ∷ 0x01 ∷ 0xff ∷ []) ∷ []
 
 -- Accepted beside each refusal: widths 1 and 8, a value of all its bytes, methods 15, lengths 1 and 15, an odd sub-function or empty data, a request as long as the buffer; 4,095 bytes are refused by the buffer only.
 unfoldable pub beside : List Example
 beside =
-    row true usual (download 15 15 (alfid 255 1) (alfid 18446744073709551615 8)) [] (gives timeout 50 0 0 0) ∷
+    row true usual (download 15 15 (alfid 255 1 false) (alfid 18446744073709551615 8 false)) [] (gives timeout 50 0 0 0) ∷
     row true usual (download 0 0 (given (replicate 15 0)) (given (0x01 ∷ []))) [] (gives timeout 50 0 0 0) ∷
     row true usual (readMemory (given (0x01 ∷ [])) (given (replicate 15 0))) [] (gives timeout 50 0 0 0) ∷
     row true usual (security 0x01 none) [] (gives timeout 50 0 0 0) ∷
@@ -167,10 +167,10 @@ beside =
     turned (writeIdentifier 0xf190 (replicate 4092 0)) 9 ∷
     turned (readMemory (given (replicate 16 0)) (given (0x01 ∷ []))) 2 ∷
     turned (readMemory (given (0x01 ∷ [])) (given [])) 3 ∷
-    turned (upload 0 0 (alfid 1 8) (alfid 256 1)) 7 ∷
-    turned (readMemory (alfid 1 9) (alfid 1 1)) 6 ∷
-    turned (readMemory (alfid 0 0) (alfid 1 1)) 6 ∷
-    turned (readMemory (alfid 1 1) (alfid 1 9)) 6 ∷
+    turned (upload 0 0 (alfid 1 8 false) (alfid 256 1 false)) 7 ∷
+    turned (readMemory (alfid 1 9 false) (alfid 1 1 false)) 6 ∷
+    turned (readMemory (alfid 0 0 false) (alfid 1 1 false)) 6 ∷
+    turned (readMemory (alfid 1 1 false) (alfid 1 9 false)) 6 ∷
     row true usual (security 0x03 none) [] (gives timeout 50 0 0 0) ∷
     turned (security 0x04 none) 1 ∷ []
 

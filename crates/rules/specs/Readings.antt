@@ -70,9 +70,9 @@ meetings =
     one false (faultCount 0xff) (0x59 ∷ 0x01 ∷ 0x01 ∷ 0x02 ∷ 0x03 ∷ 0x04 ∷ 0x05 ∷ []) (gives (positive (part 2 (0x01 ∷ 0x02 ∷ 0x03 ∷ 0x04 ∷ []))) 10 1 0 0) ∷
     one false (session 0x01) (0x50 ∷ 0x01 ∷ 0x00 ∷ []) (gives (positive (part 2 [])) 10 1 0 0) ∷
     -- Refusals: `alfid` address, then size; 4, 5 before 2, 3; 2 before 3; 1; 8 before 9.
-    turned (download 16 16 (alfid 1 9) (alfid 1 0)) 6 ∷
-    turned (download 16 16 (alfid 256 1) (alfid 1 0)) 7 ∷
-    turned (download 16 16 (alfid 1 1) (alfid 1 0)) 6 ∷
+    turned (download 16 16 (alfid 1 9 false) (alfid 1 0 false)) 6 ∷
+    turned (download 16 16 (alfid 256 1 false) (alfid 1 0 false)) 7 ∷
+    turned (download 16 16 (alfid 1 1 false) (alfid 1 0 false)) 6 ∷
     turned (download 16 16 (given []) (given [])) 4 ∷
     turned (download 15 16 (given []) (given [])) 5 ∷
     turned (download 15 15 (given []) (given [])) 2 ∷

@@ -18,29 +18,29 @@ use Rattle.rules.specs.Settings.{Setting, Lent}
 abbrev pub empty : Field
 empty = given []
 
-abbrev pub wide : Field
-wide = alfid 256 1
+abbrev pub big : Field
+big = alfid 256 1 false
 
 abbrev pub nine : Field
-nine = alfid 0 9
+nine = alfid 0 9 false
 
 -- "`alfid` address 6, 7, then size 6, 7", before anything else (here: refusals 2 and 3, and of calls 11 and 12 the methods of 16).
 abbrev pub widthsInOrder : (Field → Field → Call) → List Example
 widthsInOrder f =
-    turned (f (alfid 1 0) wide) 6 ∷
-    turned (f nine wide) 6 ∷
-    turned (f wide nine) 7 ∷
-    turned (f wide empty) 7 ∷
-    turned (f empty (alfid 1 0)) 6 ∷
+    turned (f (alfid 1 0 false) big) 6 ∷
+    turned (f nine big) 6 ∷
+    turned (f big nine) 7 ∷
+    turned (f big empty) 7 ∷
+    turned (f empty (alfid 1 0 false)) 6 ∷
     turned (f empty nine) 6 ∷
-    turned (f empty wide) 7 ∷ []
+    turned (f empty big) 7 ∷ []
 
 -- "2; 3": 2 where both break, each at both ends; then 8 and 9.
 abbrev pub lengthsInOrder : (Field → Field → Call) → List Example
 lengthsInOrder f =
     turned (f empty empty) 2 ∷
     turned (f (given (replicate 16 0)) empty) 2 ∷
-    turned (f (alfid 255 1) empty) 3 ∷
+    turned (f (alfid 255 1 false) empty) 3 ∷
     turned (f (given (0x01 ∷ [])) (given (replicate 16 0))) 3 ∷
     turned (f (given (replicate 4096 0)) (given (0x01 ∷ []))) 2 ∷
     turned (f (given (0x01 ∷ [])) (given (replicate 4096 0))) 3 ∷ []
@@ -48,8 +48,8 @@ lengthsInOrder f =
 -- Accepted: widths 1 and 8, a value of all its bytes, lengths 1 and 15.
 abbrev pub accepted : (Field → Field → Call) → List Example
 accepted f =
-    row true usual (f (alfid 255 1) (alfid 18446744073709551615 8)) [] (gives timeout 50 0 0 0) ∷
-    row true usual (f (alfid 18446744073709551615 8) (alfid 0 1)) [] (gives timeout 50 0 0 0) ∷
+    row true usual (f (alfid 255 1 false) (alfid 18446744073709551615 8 false)) [] (gives timeout 50 0 0 0) ∷
+    row true usual (f (alfid 18446744073709551615 8 false) (alfid 0 1 false)) [] (gives timeout 50 0 0 0) ∷
     row true usual (f (given (replicate 15 0)) (given (0x01 ∷ []))) [] (gives timeout 50 0 0 0) ∷
     row true usual (f (given (0x01 ∷ [])) (given (replicate 15 0))) [] (gives timeout 50 0 0 0) ∷ []
 

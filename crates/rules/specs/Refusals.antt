@@ -1,6 +1,6 @@
 -- Document 01, "Refusal numbers": each given exactly when its test fails, in the order stated there.
 use Prim.Native.Nat.{ℕ, _%_, _^_}
-use mathlib.Core.Bool.{Bool, _&&_}
+use mathlib.Core.Bool.{Bool, cond, _&&_}
 use mathlib.Core.List.{List, [], _∷_, _++_}
 use mathlib.Core.Option.{Option, none, some}
 use lib.Dec.{leb, ltb, eqb}
@@ -12,10 +12,14 @@ use Rattle.rules.specs.Events.{withinLimits}
 abbrev pub between : ℕ → ℕ → ℕ → Bool
 between least most n = leb least n && leb n most
 
--- 6: "a width outside 1..8"; 7: "the value needs more bytes than its width"
+-- Document 02, request Three: "With a new wide setting, widths 1 to 15 are taken".
+abbrev pub widest : Bool → ℕ
+widest wide = cond wide 15 8
+
+-- 6: "a width outside 1..8", or "outside 1..15 under the setting"; 7: "the value needs more bytes than its width"
 abbrev pub width : Field → List (Check ℕ)
 width (given bs) = []
-width (alfid v w) = unless (between 1 8 w) 6 ∷ unless (ltb v (256 ^ w)) 7 ∷ []
+width (alfid v w wide) = unless (between 1 (widest wide) w) 6 ∷ unless (ltb v (256 ^ w)) 7 ∷ []
 
 -- 4, 5: "compression, encryption method above 15"
 abbrev pub methods : ℕ → ℕ → List (Check ℕ)

@@ -1,5 +1,5 @@
--- The Rust's defaults: P2 50, P2* 5000, no overall timeout, server timing on, strict on.
-use mathlib.Core.Bool.{true}
+-- The Rust's defaults: P2 50, P2* 5000, no overall timeout, server timing on, strict on. The wide setting, which it does not have, is off.
+use mathlib.Core.Bool.{true, false}
 use Rattle.exchange.specs.declared.types.RequestTimeout.the-variants.{Never}
 use Rattle.uds.specs.declared.config.UDSConfig.{UDSConfig}
 
@@ -10,4 +10,5 @@ defaults = record {
   «request_timeout» = Never;
   «use_server_timing» = true;
   strict = true;
+  wide = false;
 }

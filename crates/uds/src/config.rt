@@ -15,10 +15,12 @@ pub struct UDSConfig {
     pub use_server_timing: bool,
     // Whether responses are validated against ISO 14229-1:2013.
     pub strict: bool,
+    // Not the Rust's: the `alfid` forms take widths of 1 to 15 bytes, padded with zeros on the left, and not only of 1 to 8.
+    pub wide: bool,
 }
 
 impl UDSConfig {
-    // P2 50 ms, P2* five seconds, no overall limit, server timing and strict on.
+    // P2 50 ms, P2* five seconds, no overall limit, server timing and strict on, wide off.
     pub fn default() -> UDSConfig
         ensures { λ r. ⌜ r ≡ defaults ⌝ }
     {
@@ -28,6 +30,7 @@ impl UDSConfig {
             request_timeout: RequestTimeout::Never,
             use_server_timing: true,
             strict: true,
+            wide: false,
         }
     }
 }

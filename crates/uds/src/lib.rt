@@ -124,9 +124,10 @@ impl UDSClient {
         events: &[u8],
         replies: &[u8],
     ) -> Answered
-        ensures { λ r. ⌜ Asks self Bool.false (callFrom call (alfid address «address_width») (alfid size «size_width») (now («data» .entry))) (now (request .entry)) (now (events .entry)) (now (replies .entry)) r (now (request .exit)) ⌝ }
+        ensures { λ r. ⌜ Asks self Bool.false (callFrom call (alfid address «address_width» (self .config .wide)) (alfid size «size_width» (self .config .wide)) (now («data» .entry))) (now (request .entry)) (now (events .entry)) (now (replies .entry)) r (now (request .exit)) ⌝ }
     {
         let session = self.session;
+        let config = self.config;
         run_alfid(
             session,
             self.ask(false, call),
@@ -135,6 +136,7 @@ impl UDSClient {
             size,
             address_width,
             size_width,
+            config.wide,
             data,
             events,
             replies,
@@ -283,7 +285,7 @@ impl UDSClient {
         )
     }
 
-    // 0x23 - Read Memory By Address with numeric address and size. The widths are byte counts from 1 to 8.
+    // 0x23 - Read Memory By Address with numeric address and size. The widths are byte counts from 1 to 8, or to 15 with `wide`.
     pub fn read_memory_by_address_alfid(
         self,
         memory_address: u64,
@@ -294,7 +296,7 @@ impl UDSClient {
         events: &[u8],
         replies: &[u8],
     ) -> Answered
-        ensures { λ r. ⌜ Asks self Bool.false (readMemory (alfid «memory_address» «address_width») (alfid «memory_size» «size_width»)) (now (request .entry)) (now (events .entry)) (now (replies .entry)) r (now (request .exit)) ⌝ }
+        ensures { λ r. ⌜ Asks self Bool.false (readMemory (alfid «memory_address» «address_width» (self .config .wide)) (alfid «memory_size» «size_width» (self .config .wide))) (now (request .entry)) (now (events .entry)) (now (replies .entry)) r (now (request .exit)) ⌝ }
     {
         self.call_alfid(
             Call::ReadMemoryByAddress,
@@ -368,7 +370,7 @@ impl UDSClient {
         events: &[u8],
         replies: &[u8],
     ) -> Answered
-        ensures { λ r. ⌜ Asks self Bool.false (writeMemory (alfid «memory_address» «address_width») (alfid «memory_size» «size_width») (now («data» .entry))) (now (request .entry)) (now (events .entry)) (now (replies .entry)) r (now (request .exit)) ⌝ }
+        ensures { λ r. ⌜ Asks self Bool.false (writeMemory (alfid «memory_address» «address_width» (self .config .wide)) (alfid «memory_size» «size_width» (self .config .wide)) (now («data» .entry))) (now (request .entry)) (now (events .entry)) (now (replies .entry)) r (now (request .exit)) ⌝ }
     {
         self.call_alfid(
             Call::WriteMemoryByAddress,
@@ -467,7 +469,7 @@ impl UDSClient {
         events: &[u8],
         replies: &[u8],
     ) -> Answered
-        ensures { λ r. ⌜ Asks self Bool.false (download «compression_method» «encryption_method» (alfid «memory_address» «address_width») (alfid «memory_size» «size_width»)) (now (request .entry)) (now (events .entry)) (now (replies .entry)) r (now (request .exit)) ⌝ }
+        ensures { λ r. ⌜ Asks self Bool.false (download «compression_method» «encryption_method» (alfid «memory_address» «address_width» (self .config .wide)) (alfid «memory_size» «size_width» (self .config .wide))) (now (request .entry)) (now (events .entry)) (now (replies .entry)) r (now (request .exit)) ⌝ }
     {
         self.call_alfid(
             Call::RequestDownload(compression_method, encryption_method),
@@ -521,7 +523,7 @@ impl UDSClient {
         events: &[u8],
         replies: &[u8],
     ) -> Answered
-        ensures { λ r. ⌜ Asks self Bool.false (upload «compression_method» «encryption_method» (alfid «memory_address» «address_width») (alfid «memory_size» «size_width»)) (now (request .entry)) (now (events .entry)) (now (replies .entry)) r (now (request .exit)) ⌝ }
+        ensures { λ r. ⌜ Asks self Bool.false (upload «compression_method» «encryption_method» (alfid «memory_address» «address_width» (self .config .wide)) (alfid «memory_size» «size_width» (self .config .wide))) (now (request .entry)) (now (events .entry)) (now (replies .entry)) r (now (request .exit)) ⌝ }
     {
         self.call_alfid(
             Call::RequestUpload(compression_method, encryption_method),

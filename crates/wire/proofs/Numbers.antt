@@ -1,31 +1,21 @@
--- A number as bytes has as many as it is given, and reads back as itself; and how `memory_bytes` makes them.
-use Prim.Native.Nat.{ℕ, zero, suc, _+_, _-_, _*_, _/_, _%_, _^_, _≤_, _<_}
-use native.Mathlib.Nat.{pow-suc, pow-succ', one-le-pow, add-mul, mul-assoc, add-assoc, mod-eq-of-lt, mod-one, div-div-eq-div-mul, div-lt-iff-lt-mul, le-div-iff-mul-le, sub-self, sub-zero, zero-sub, suc-sub-suc, zero-mul, zero-add}
+-- How `memory_bytes` makes a number's bytes. That they are as many as it is given and read back as itself, is in rules/proofs/Wide.
+use Prim.Native.Nat.{ℕ, zero, suc, _+_, _-_, _/_, _%_, _^_, _≤_, _<_}
+use native.Mathlib.Nat.{pow-suc, one-le-pow, div-div-eq-div-mul, div-lt-iff-lt-mul, le-div-iff-mul-le, sub-self, sub-zero, zero-sub, suc-sub-suc}
 use native.Mathlib.Numerals.{add-one}
 use native.Mathlib.Omega.{arith}
-use mathlib.Core.Path.{_≡_, refl, ap, _∙_}
+use mathlib.Core.Bool.{Bool, true, false}
+use mathlib.Core.Path.{_≡_}
 use mathlib.Core.List.{List, _++_}
 use borrow.Author.Tests.{le-leb, lt-ltb, le-ltb}
-use lib.Arith.{mod-mul}
 use lib.ListN.{length, getD, take, drop, set, replicate, take-append-drop}
 use lib.Seq.{take-suc, append-snoc, set-at, length-take-le}
-use Rattle.rules.specs.Bytes.{value, valueFrom, bytesOf}
+use Rattle.rules.specs.Bytes.{bytesOf}
+use Rattle.rules.specs.Refusals.{widest}
 use Rattle.wire.specs.Memory.{memoryBytes, refused}
 
-pub bytes-length : (w v : ℕ) → length (bytesOf w v) ≡ w
-bytes-length zero v = refl
-bytes-length (suc w) v = ap suc (bytes-length w v)
-
-value-from : (u w v : ℕ) → valueFrom u (bytesOf w v) ≡ u * 256 ^ w + v % 256 ^ w
-value-from u zero v = rw (mod-one v) (omega arith)
-value-from u (suc w) v =
-    let digit = v / 256 ^ w % 256 in
-    let split : v % (256 * 256 ^ w) ≡ digit * 256 ^ w + v % 256 ^ w = mod-mul v {m = 256} {c = 256 ^ w} (omega arith)
-    (one-le-pow w 256 (omega arith)) in
-    value-from (u * 256 + digit) w v ∙ rw (pow-succ' 256 w, split, add-mul, mul-assoc, add-assoc)
-
-pub value-back : (w v : ℕ) → v < 256 ^ w → value (bytesOf w v) ≡ v
-value-back w v h = value-from 0 w v ∙ rw (zero-mul, zero-add, mod-eq-of-lt h)
+pub widest-most : (wide : Bool) → widest wide ≤ 15
+widest-most true = omega arith
+widest-most false = omega arith
 
 -- Whether what is left of v behind its last w bytes is nothing.
 small : (w v : ℕ) → v / 256 ^ w ≤ 0 → v < 256 ^ w
@@ -59,13 +49,13 @@ pub rest-less : (v j : ℕ) → v / 256 ^ j / 256 ≡ v / 256 ^ (j + 1)
 rest-less v j = rw (add-one j, pow-suc 256 j, div-div-eq-div-mul)
 
 -- What it has written in the end, by whether all of the value is.
-module _ (w v : ℕ) (low : 1 ≤ w) (high : w ≤ 8) where
+module _ (w v : ℕ) (wide : Bool) (low : 1 ≤ w) (high : w ≤ widest wide) where
   pub written : (bytes : List ℕ) → v / 256 ^ w ≤ 0 → bytes ≡ take (w - w) (replicate 15 0) ++ (bytesOf w v ++ drop w (replicate 15 0))
-      → record { refusal = 0; len = w; bytes = bytes } ≡ memoryBytes v w
+      → record { refusal = 0; len = w; bytes = bytes } ≡ memoryBytes v w wide
   unfolding memoryBytes
   written bytes h e =
-      rw (le-leb 1 w low, le-leb w 8 high, lt-ltb v (256 ^ w) (small w v h), e, sub-self, drop-replicate w 15 0)
+      rw (le-leb 1 w low, le-leb w (widest wide) high, lt-ltb v (256 ^ w) (small w v h), e, sub-self, drop-replicate w 15 0)
 
-  pub too-narrow : 0 < v / 256 ^ w → refused 7 ≡ memoryBytes v w
+  pub too-narrow : 0 < v / 256 ^ w → refused 7 ≡ memoryBytes v w wide
   unfolding memoryBytes
-  too-narrow h = rw (le-leb 1 w low, le-leb w 8 high, le-ltb v (256 ^ w) (large w v h))
+  too-narrow h = rw (le-leb 1 w low, le-leb w (widest wide) high, le-ltb v (256 ^ w) (large w v h))

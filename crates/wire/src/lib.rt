@@ -3,6 +3,7 @@ ghost use mathlib.Core.Path.{_≡_};
 ghost use Prim.Native.Nat.{_<_};
 ghost use lib.ListN.{getD, take, drop};
 ghost use Rattle.rules.specs.Bytes.{u16At, u32At};
+ghost use Rattle.rules.specs.Refusals.{widest};
 ghost use Rattle.wire.specs.Buffers.{Copied};
 ghost use Rattle.wire.specs.Memory.{memoryBytes, refused};
 
@@ -104,14 +105,22 @@ fn refusal(number: u8) -> MemoryBytes
     }
 }
 
-// "sent high byte first"; refusal 6 for a width outside 1..8, 7 for a value that needs more bytes.
-pub fn memory_bytes(value: u64, width: usize) -> MemoryBytes
-    ensures { λ r. ⌜ r ≡ memoryBytes value width ⌝ }
+// The largest width, by the wide setting.
+fn widest(wide: bool) -> usize
+    ensures { λ r. ⌜ r ≡ widest wide ⌝ }
+{
+    if wide { 15 } else { 8 }
+}
+
+// "sent high byte first", and "padded with zeros on the left"; refusal 6 for a width outside 1..8, or 1..15 under the wide setting, 7 for
+// a value that needs more bytes.
+pub fn memory_bytes(value: u64, width: usize, wide: bool) -> MemoryBytes
+    ensures { λ r. ⌜ r ≡ memoryBytes value width wide ⌝ }
 {
     if width < 1 {
         return refusal(6);
     }
-    if width > 8 {
+    if width > widest(wide) {
         return refusal(6);
     }
     let mut bytes = [0u8; 15];

@@ -22,6 +22,7 @@ pub fn prepare(case: &Case) -> Prepared {
         server_timing: setting.server_timing,
         suppressed: setting.quiet,
         overall: setting.overall,
+        wide: false,
     };
     Prepared {
         asked: Asked::new(&call_of(&case.call), &config),

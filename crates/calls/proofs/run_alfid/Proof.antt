@@ -21,6 +21,7 @@ given t =
       u = x .size;
       w = x .address-width;
       w′ = x .size-width;
+      wide = x .wide;
       d = x .«data» .now;
       lent = lentOf (x .request .now) (x .events .now) (x .replies .now);
     }

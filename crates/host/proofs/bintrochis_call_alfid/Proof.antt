@@ -74,7 +74,7 @@ returns-4 c =
     let x = made .before .before .before .before .before .args in
     let d = x .«data» .now in
     let asks = told-of (made .fields .ensures) (told .ask .given .1) (ask .ask-of .ensures) in
-    asks-one (alfid (x .address) (x .address-width)) (alfid (x .size) (x .size-width)) d
+    asks-one (alfid (x .address) (x .address-width) (x .wide)) (alfid (x .size) (x .size-width) (x .wide)) d
     (asks .1)
     (ran .run-alfid .ensures)
     (rw (← has .ensures, not-false (has .result) (one-of-four .if1 .left))

@@ -20,9 +20,9 @@ same-length c = search needs
 returns : tie.Need-returns
 returns c =
     let at-ask = c .before .before .before .before in
-    let start = at-ask .before .before .before .before .before .before in
+    let start = at-ask .before .before .before .before .before .before .before in
     let x = (start .args) in
-    as-asked (x .self) false (x .call) (λ k. callFrom k (alfid (x .address) (x .address-width)) (alfid (x .size) (x .size-width)) (x .«data» .now))
+    as-asked (x .self) false (x .call) (λ k. callFrom k (alfid (x .address) (x .address-width) (x .self .config .wide)) (alfid (x .size) (x .size-width) (x .self .config .wide)) (x .«data» .now))
     (at-ask .ask .ensures) (c .before .before .run-alfid .ensures)
 
 pub call-alfid-spec : {M : Type 1} → statement M
