@@ -39,7 +39,8 @@ enum bintrochis_call_number {
     BINTROCHIS_REQUEST_DOWNLOAD = 11,        /* value compression x 256 + encryption; address, size */
     BINTROCHIS_REQUEST_UPLOAD = 12,          /* the same */
     BINTROCHIS_TRANSFER_DATA = 13,           /* value block counter; data? */
-    BINTROCHIS_REQUEST_TRANSFER_EXIT = 14    /* data? */
+    BINTROCHIS_REQUEST_TRANSFER_EXIT = 14,   /* data? */
+    BINTROCHIS_READ_DTC_INFORMATION_DTC = 15 /* value mask: the faults by status mask, as availability mask and records of four bytes */
 };
 
 /* Flags. The first four suit every call. */
@@ -71,7 +72,7 @@ enum bintrochis_number {
     BINTROCHIS_OUTCOME = 0,
     BINTROCHIS_DETAIL = 1,  /* a negative's code, a transport error's, a deviation's or a refusal's number; else 0 */
     BINTROCHIS_LEAST = 2,   /* deviation 8: the least length that the reply may have; else 0 */
-    BINTROCHIS_MOST = 3,    /* and the greatest; BINTROCHIS_NO_MAXIMUM: there is none */
+    BINTROCHIS_MOST = 3,    /* and the greatest; BINTROCHIS_NO_MAXIMUM: there is none. Call 15 also wants 3 plus a multiple of 4 */
     BINTROCHIS_TIME = 4,    /* the finishing time, in milliseconds since sending; under a refusal 0 */
     BINTROCHIS_EVENTS = 5,  /* how many events were read, the one that settled the call included */
     BINTROCHIS_NOTICES = 6, /* and how many of these were wait notices, negatives of code 78 */
@@ -105,9 +106,9 @@ enum bintrochis_outcome {
 enum bintrochis_result {
     BINTROCHIS_DONE = 0,  /* the answer stands in `answer`; unless it is a refusal, the request stands at the front of `request` */
     BINTROCHIS_MISUSE = 1 /* the numbers ask no call, and nothing was touched. This is so when and only when
-                             - call is above 14, or in the second function none of 5, 6, 11 and 12;
+                             - call is above 15, or in the second function none of 5, 6, 11 and 12;
                              - a flag does not suit the call, or one that it needs is missing;
-                             - a field that the call does not use is not 0 (value, sub, lengths, overall), or value is above 255 for calls 0, 9, 13;
+                             - a field that the call does not use is not 0 (value, sub, lengths, overall), or value is above 255 for calls 0, 9, 13, 15;
                              - there are fewer argument bytes than the two lengths say, or more without BINTROCHIS_DATA; in the second
                                function: there are data bytes without BINTROCHIS_DATA. */
 };

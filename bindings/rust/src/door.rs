@@ -244,6 +244,12 @@ mod tests {
             ..read()
         };
         assert_eq!(tried(memory, &[0x20, 0, 4]), (DONE, false));
+        let faults = Fields {
+            call: 15,
+            value: 255,
+            ..read()
+        };
+        assert_eq!(tried(faults, &[]), (DONE, false));
     }
 
     #[test]
@@ -251,7 +257,7 @@ mod tests {
         let misuse = [
             (
                 Fields {
-                    call: 15,
+                    call: 16,
                     value: 0,
                     ..read()
                 },
@@ -308,6 +314,23 @@ mod tests {
                 Fields {
                     call: 13,
                     value: 256,
+                    ..read()
+                },
+                &[],
+            ),
+            (
+                Fields {
+                    call: 15,
+                    value: 256,
+                    ..read()
+                },
+                &[],
+            ),
+            (
+                Fields {
+                    call: 15,
+                    flags: 33,
+                    value: 8,
                     ..read()
                 },
                 &[],

@@ -51,7 +51,8 @@ pub enum Memory<'a> {
     },
 }
 
-/// The calls, under the names of the Rust's services. Data is absent (`None`) or present, be it of no bytes; the two are not the same.
+/// The calls, under the names of the Rust's services; the last, which the Rust lacks, after its name for the number of faults. Data is
+/// absent (`None`) or present, be it of no bytes; the two are not the same.
 #[derive(Debug, Clone, Copy, PartialEq, Eq)]
 pub enum Call<'a> {
     Request {
@@ -108,6 +109,10 @@ pub enum Call<'a> {
     },
     RequestTransferExit {
         data: Option<&'a [u8]>,
+    },
+    /// The faults themselves: a positive hands out the availability mask, then records of three fault-code bytes and one status byte.
+    ReadDTCInformationDTCByStatusMask {
+        status_mask: u8,
     },
 }
 
@@ -299,6 +304,9 @@ impl Asked {
             } => (12, methods(compression, encryption), None, memory, None),
             Call::TransferData { counter, data } => (13, counter.into(), None, none, data),
             Call::RequestTransferExit { data } => (14, 0, None, none, data),
+            Call::ReadDTCInformationDTCByStatusMask { status_mask } => {
+                (15, status_mask.into(), None, none, None)
+            }
         };
         let mut arguments = Vec::new();
         let memory = match memory {

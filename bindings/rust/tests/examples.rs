@@ -1,4 +1,5 @@
-//! The ten examples of document 01 through the bindings, the requests of all calls, and what the bindings add: enums, slices, a session.
+//! The ten examples of document 01 through the bindings, the requests of all calls, the list of faults, and what the bindings add:
+//! enums, slices, a session.
 
 use bintrochis::{
     Answer, Asked, Call, Config, Events, Memory, NegativeResponseCode, Outcome, ProtocolDeviation,
@@ -22,6 +23,7 @@ const QUIET: Config = Config {
 };
 const READ: Call<'static> = Call::ReadDataByIdentifier { identifier: 0xf190 };
 const RESET: Call<'static> = Call::EcuReset { reset_type: 0x81 };
+const FAULTS: Call<'static> = Call::ReadDTCInformationDTCByStatusMask { status_mask: 8 };
 
 fn until(overall: u32) -> Config {
     Config {
@@ -211,7 +213,7 @@ fn the_request_of_every_call() {
         size: &[0x04],
     };
     let data = Some(&[0xaa, 0xbb][..]);
-    let calls: [(Call, &[u8]); 16] = [
+    let calls: [(Call, &[u8]); 17] = [
         (
             Call::Request {
                 sid: 0x85,
@@ -293,6 +295,7 @@ fn the_request_of_every_call() {
             &[0x36, 0x00, 0xaa, 0xbb],
         ),
         (Call::RequestTransferExit { data: None }, &[0x37]),
+        (FAULTS, &[0x19, 0x02, 0x08]),
     ];
     for (call, request) in calls {
         told(call, STRICT, &[], |answer| {
@@ -302,6 +305,41 @@ fn the_request_of_every_call() {
     told(Call::TesterPresent, QUIET, &[], |answer| {
         assert_eq!(answer.request, [0x3e, 0x80])
     });
+    told(FAULTS, QUIET, &[], |answer| {
+        assert_eq!(answer.request, [0x19, 0x82, 0x08])
+    });
+}
+
+#[test]
+fn the_list_of_faults() {
+    // Two records, whole and without the last byte.
+    let reply = [
+        0x59, 0x02, 0xff, 0x12, 0x34, 0x56, 0x08, 0x12, 0x34, 0x57, 0x09,
+    ];
+    let one = [(10, &reply[..7])];
+    let two = [(10, &reply[..])];
+    let broken = [(10, &reply[..10])];
+    for config in [STRICT, LENIENT] {
+        let positive = |length: usize| Outcome::PositiveResponse(&reply[2..length]);
+        gives(FAULTS, config, &[(10, &reply[..3])], positive(3), 10);
+        gives(FAULTS, config, &one, positive(7), 10);
+        gives(FAULTS, config, &two, positive(11), 10);
+    }
+    gives(FAULTS, STRICT, &broken, length(3, None), 10);
+    let whole = Outcome::PositiveResponse(&reply[2..7]);
+    gives(FAULTS, LENIENT, &broken, whole, 10);
+    // Nothing behind the sub-function.
+    let bare = [(10, &reply[..2])];
+    gives(FAULTS, STRICT, &bare, length(3, None), 10);
+    gives(FAULTS, LENIENT, &bare, Outcome::InvalidResponseLength, 10);
+    gives(FAULTS, QUIET, &[], Outcome::Suppressed, 50);
+    gives(
+        FAULTS,
+        QUIET,
+        &one,
+        deviation(ProtocolDeviation::UnexpectedPositiveResponse),
+        10,
+    );
 }
 
 #[test]
@@ -493,7 +531,10 @@ fn widths_up_to_fifteen_under_the_wide_setting() {
             p2_star: 5000,
         };
         let answer = Asked::new(&call, config).answer(&mut session, &mut buffer, &[], &[]);
-        (answer.outcome == Outcome::Refused(6), answer.request.to_vec())
+        (
+            answer.outcome == Outcome::Refused(6),
+            answer.request.to_vec(),
+        )
     };
     let wide = Config {
         wide: true,

@@ -49,6 +49,7 @@ no-fields (call-of.RequestDownload c e) a s a′ s′ d h = absurd (true≢false
 no-fields (call-of.RequestUpload c e) a s a′ s′ d h = absurd (true≢false h)
 no-fields (call-of.TransferData counter x) a s a′ s′ d h = refl
 no-fields (call-of.RequestTransferExit x) a s a′ s′ d h = refl
+no-fields (call-of.ReadDTCInformationDTC mask) a s a′ s′ d h = refl
 
 -- Of a call that takes them, the widths are judged first.
 module _ (strict : Bool) (w : Setting) (l : Lent) (a s : Field) (d : List ℕ) where
@@ -74,6 +75,7 @@ module _ (strict : Bool) (w : Setting) (l : Lent) (a s : Field) (d : List ℕ) w
   widths (call-of.RequestUpload c e) h = simp judge-append
   widths (call-of.TransferData counter x) h = absurd (false≢true h)
   widths (call-of.RequestTransferExit x) h = absurd (false≢true h)
+  widths (call-of.ReadDTCInformationDTC mask) h = absurd (false≢true h)
 
 -- What `memory_bytes` answers: the first refusal of the field, or its bytes.
 module _ (v w : ℕ) (wide : Bool) where

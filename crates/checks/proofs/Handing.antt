@@ -41,6 +41,7 @@ handed-beside (call.RequestDownload c e) a s d p = refl
 handed-beside (call.RequestUpload c e) a s d p = refl
 handed-beside (call.TransferData counter x) a s d p = refl
 handed-beside (call.RequestTransferExit x) a s d p = refl
+handed-beside (call.ReadDTCInformationDTC mask) a s d p = refl
 
 -- It is what the span says.
 module _ (at : ℕ) (r : List ℕ) where
@@ -64,6 +65,7 @@ module _ (at : ℕ) (r : List ℕ) where
   spans (call.RequestUpload c e) = refl
   spans (call.TransferData counter p) = all-behind 2 at r
   spans (call.RequestTransferExit p) = all-behind 1 at r
+  spans (call.ReadDTCInformationDTC mask) = refl
 
 -- r: the bytes at the place.
 module _ (call : Call) (l : List ℕ) (place : Place) (r : List ℕ) (here : r ≡ take (place .len) (drop (place .at) l)) (s : Span) (out : s ≡ spanOf call r) where

@@ -1,5 +1,5 @@
 -- What the contracts come to for a call that is not refused and a reply that was a positive: `rules`' definitions. And the data lies inside the reply.
-use Prim.Native.Nat.{ℕ, _+_, _%_, _^_, _≤_}
+use Prim.Native.Nat.{ℕ, _+_, _-_, _*_, _/_, _%_, _^_, _≤_}
 use native.Mathlib.Omega.{arith}
 use mathlib.Core.Bool.{Bool, true, false, cond}
 use mathlib.Core.List.{List, []}
@@ -13,7 +13,7 @@ use Rattle.rules.specs.After.{lengthBytes, serviceChecks, handed, first, checke
 use Rattle.rules.specs.Answers as rules
 use Rattle.rules.specs.Answers.{Part, part, behind, positive, suppressed, negative, timeout, disconnected, transport, fault, refused, ifPositive}
 use Rattle.rules.specs.Calls as calls
-use Rattle.rules.specs.Calls.{request, session, reset, security, testerPresent, readMemory, writeMemory, readIdentifier, writeIdentifier, faultCount, routine, download, upload, transfer, transferExit, subOf, withBit7, head, loads}
+use Rattle.rules.specs.Calls.{request, session, reset, security, testerPresent, readMemory, writeMemory, readIdentifier, writeIdentifier, faultCount, routine, download, upload, transfer, transferExit, faultList, subOf, withBit7, head, loads}
 use Rattle.rules.specs.Refusals.{between, arguments}
 use Rattle.rules.proofs.Inside.{data-inside, number-fits}
 use Rattle.rules.proofs.Judging.{Pass, both, judge-ind}
@@ -49,6 +49,7 @@ as-sent (call.RequestDownload c e) a s d p = rw (short a (p .1 .1 .0), short s (
 as-sent (call.RequestUpload c e) a s d p = rw (short a (p .1 .1 .0), short s (p .1 .1 .1 .0))
 as-sent (call.TransferData counter x) a s d p = refl
 as-sent (call.RequestTransferExit x) a s d p = refl
+as-sent (call.ReadDTCInformationDTC mask) a s d p = refl
 
 -- What is checked does not depend on the data.
 module _ (strict : Bool) (a s d : List ℕ) where
@@ -67,6 +68,7 @@ module _ (strict : Bool) (a s d : List ℕ) where
   checks-beside (call.RequestDownload c e) r = refl
   checks-beside (call.RequestUpload c e) r = refl
   checks-beside (call.RequestTransferExit p) r = refl
+  checks-beside (call.ReadDTCInformationDTC mask) r = refl
   checks-beside (call.TransferData counter Absent) r = refl
   checks-beside (call.TransferData counter Present) r = refl
 
@@ -106,6 +108,7 @@ module _ (at : ℕ) (r : List ℕ) where
   handed-within (upload c e a s) = cut (lengthBytes r) 2
   handed-within (transfer counter x) = left 2
   handed-within (transferExit x) = left 1
+  handed-within (faultList mask) = cut ((length (drop 2 r) - 1) / 4 * 4 + 1) 2
 
 -- A positive's data lies between two indices.
 abbrev Lies : ℕ → ℕ → rules.Outcome → Type 0

@@ -1,5 +1,5 @@
 -- The data that a call hands out of a reply, as the code counts it: so many bytes passed over, and at most so many behind them.
-use Prim.Native.Nat.{ℕ, _%_}
+use Prim.Native.Nat.{ℕ, _+_, _-_, _*_, _/_, _%_}
 use mathlib.Core.Bool.{cond}
 use mathlib.Core.List.{List}
 use lib.Dec.{eqb}
@@ -18,6 +18,10 @@ span skip count = record { 0 = skip; 1 = count }
 abbrev pub only : ℕ → List ℕ → ℕ
 only n r = cond (eqb (length (drop 2 r)) n) n 0
 
+-- A byte behind SID and sub-function, and the whole fours behind it.
+abbrev pub unbroken : List ℕ → ℕ
+unbroken r = (length (drop 2 r) - 1) / 4 * 4 + 1
+
 abbrev pub spanOf : Call → List ℕ → Span
 spanOf (call.Request sid sub p) r = span (head (subOf sub)) (length r)
 spanOf (call.DiagnosticSessionControl sub) r = span 2 (only 4 r)
@@ -34,3 +38,4 @@ spanOf (call.RequestDownload c e) r = span 2 (lengthBytes r)
 spanOf (call.RequestUpload c e) r = span 2 (lengthBytes r)
 spanOf (call.TransferData counter p) r = span 2 (length r)
 spanOf (call.RequestTransferExit p) r = span 1 (length r)
+spanOf (call.ReadDTCInformationDTC mask) r = span 2 (unbroken r)

@@ -7,7 +7,7 @@ use requests::Call;
 use wire::part;
 ghost use mathlib.Core.Path.{_≡_};
 ghost use Rattle.checks.specs.Answered.{Handed};
-ghost use Rattle.checks.specs.Spans.{only, spanOf};
+ghost use Rattle.checks.specs.Spans.{only, unbroken, spanOf};
 
 // Of a reply, behind its first .0 bytes at most .1 bytes.
 struct Span(usize, usize);
@@ -17,6 +17,16 @@ fn only(n: usize, reply: &[u8]) -> usize
     ensures { λ r. ⌜ r ≡ only n (now (reply .entry)) ⌝ }
 {
     if rest(reply, 2).len() == n { n } else { 0 }
+}
+
+// Call 15: one byte behind SID and sub-function, and the whole records of four behind it; "lenient drops a broken tail".
+fn unbroken(reply: &[u8]) -> usize
+    ensures { λ r. ⌜ r ≡ unbroken (now (reply .entry)) ⌝ }
+{
+    if reply.len() < 3 {
+        return 1;
+    }
+    (reply.len() - 3) / 4 * 4 + 1
 }
 
 // "In lenient, call 1 hands out its record only if exactly four bytes follow, call 2 its byte only if exactly one does, call 9 the first four, calls 5 and 6 all after the SID; the others as in the table."
@@ -46,6 +56,7 @@ fn hands_out(call: Call, reply: &[u8]) -> Span
         Call::RequestUpload(_, _) => Span(2, length_bytes(reply)),
         Call::TransferData(_, _) => Span(2, all),
         Call::RequestTransferExit(_) => Span(1, all),
+        Call::ReadDTCInformationDTC(_) => Span(2, unbroken(reply)),
     }
 }
 

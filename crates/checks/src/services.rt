@@ -23,7 +23,7 @@ ghost use lib.ListN.{length, getD, drop};
 ghost use Rattle.rules.specs.After.{most, bounds, atLeast, strictly, transferLength, lengthBytes, blockLength, loading, serviceChecks};
 ghost use Rattle.rules.specs.Answers.{overflow};
 ghost use Rattle.rules.specs.Bytes.{value, u16At, same};
-ghost use Rattle.rules.specs.Calls.{given, readMemory, writeMemory, faultCount, routine};
+ghost use Rattle.rules.specs.Calls.{given, readMemory, writeMemory, faultCount, faultList, routine};
 ghost use Rattle.rules.specs.InOrder.{unless, judge, inStrict};
 ghost use Rattle.exchange.specs.Meaning.{maximumOf, deviationOf, verdictOf, firstOf};
 ghost use Rattle.requests.specs.Meaning.{dataOf};
@@ -175,6 +175,19 @@ fn read_dtc_information(strict: bool, reply: &[u8]) -> Verdict
     Verdict::Passed
 }
 
+// Call 15: "total length must be 3 plus a multiple of 4, else deviation 8 (3, none)"; "fewer than one byte after the sub-function is a length outcome"
+fn read_dtc_information_dtc(strict: bool, reply: &[u8]) -> Verdict
+    ensures { λ r. ⌜ verdictOf r ≡ firstOf (serviceChecks strict (faultList 0) (now (reply .entry))) ⌝ }
+{
+    if !in_strict(strict, reply.len() % 4 == 3) {
+        return Verdict::Failed(length_error(strict, 3, Maximum::None));
+    }
+    if reply.len() < 3 {
+        return Verdict::Failed(length_error(strict, 3, Maximum::None));
+    }
+    Verdict::Passed
+}
+
 // "10 two after the sub-function, else (4, none)" .. "10 deviation 6"
 fn routine_control(strict: bool, id: u16, reply: &[u8]) -> Verdict
     ensures { λ r. ⌜ verdictOf r ≡ firstOf (serviceChecks strict (routine 0 id none) (now (reply .entry))) ⌝ }
@@ -305,5 +318,6 @@ pub fn verdict(strict: bool, call: Call, address: &[u8], size: &[u8], reply: &[u
             transfer_data(strict, transfer_length(data), counter, reply)
         }
         Call::RequestTransferExit(_) => Verdict::Passed,
+        Call::ReadDTCInformationDTC(_) => read_dtc_information_dtc(strict, reply),
     }
 }

@@ -37,7 +37,7 @@ fields c flags value sub a s p2 star overall = record {
 
 -- Whether there is such a call, and n argument bytes are as many as the two lengths say, and more with flag 32 only.
 unfoldable pub fits : Header → ℕ → Bool
-fits h n = leb (h .call) 14 && leb (h .arguments) n && (eqb (flag 32 h) 1 || leb n (h .arguments))
+fits h n = leb (h .call) 15 && leb (h .arguments) n && (eqb (flag 32 h) 1 || leb n (h .arguments))
 
 -- Whether the fields and n argument bytes ask a call: the fields suit it by the log's rules.
 abbrev pub asksOne : Header → ℕ → Bool

@@ -54,7 +54,7 @@ fn fits(h: Header, n: usize) -> bool
     ensures { λ r. ⌜ r ≡ fits (said h) n ⌝ }
 {
     let arguments = h.arguments as usize;
-    if h.call > 14 {
+    if h.call > 15 {
         return false;
     }
     if n < arguments {

@@ -43,8 +43,8 @@ module _ (h : Header) where
       let s = sound-at c e k in
       eq-eqb (h .flags / 32 % 2) 1 (omega arith)
 
-  -- No call has a number above 14.
-  pub no-call : (a s : Field) (d : List ℕ) → 15 ≤ h .call → testerPresent ≡ chosen h a s d
+  -- No call has a number above 15.
+  pub no-call : (a s : Field) (d : List ℕ) → 16 ≤ h .call → testerPresent ≡ chosen h a s d
   no-call a s d k = sym (List·getD-eq-default (choices (h .value) (h .sub) _ a s _) testerPresent k)
 
 -- A number that is none of the first k.

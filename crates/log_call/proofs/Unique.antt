@@ -58,6 +58,7 @@ callBack (rules.download c e a s) = call.RequestDownload c e
 callBack (rules.upload c e a s) = call.RequestUpload c e
 callBack (rules.transfer counter d) = call.TransferData counter (dataFrom d)
 callBack (rules.transferExit d) = call.RequestTransferExit (dataFrom d)
+callBack (rules.faultList mask) = call.ReadDTCInformationDTC mask
 
 sub-back : (s : SubFunction) → subFrom (subOf s) ≡ s
 sub-back sub-function.Absent = refl
@@ -87,6 +88,7 @@ call-back (call.RequestDownload c e) = refl
 call-back (call.RequestUpload c e) = refl
 call-back (call.TransferData counter p) = ap (call.TransferData counter) (data-back p)
 call-back (call.RequestTransferExit p) = ap call.RequestTransferExit (data-back p)
+call-back (call.ReadDTCInformationDTC mask) = refl
 
 -- What sound fields ask is one call, made in one way.
 pub asks-unique : {h : logs.Header} {r r′ : Ask} → Asks h r → Asks h r′ → r ≡ r′

@@ -61,7 +61,7 @@ fn given_in(h: Header) -> Data
     }
 }
 
-// "value u16 (SID, id, mask, counter, or compression × 256 + encryption)"; of calls 0, 9 and 13 it is a byte.
+// "value u16 (SID, id, mask, counter, or compression × 256 + encryption)"; of calls 0, 9, 13 and 15 it is a byte.
 fn call_of(h: Header) -> Call
     requires { ⌜ fieldsOk (said h) (usesOf (h .call)) ≡ true ⌝ }
     ensures { λ r. ⌜ ((a s : Field) (d : List ℕ) → callFrom r a s d ≡ chosen (said h) a s d) ⌝ }
@@ -86,7 +86,8 @@ fn call_of(h: Header) -> Call
         12 => Call::RequestUpload((value / 256) as u8, (value % 256) as u8),
         13 => Call::TransferData(value as u8, given),
         14 => Call::RequestTransferExit(given),
-        // no call of document 01: its callers turn it away (`laid_out`, and the door by its `fits`)
+        15 => Call::ReadDTCInformationDTC(value as u8),
+        // no call: its callers turn it away (`laid_out`, and the door by its `fits`)
         _ => Call::TesterPresent,
     }
 }

@@ -1,5 +1,5 @@
 -- No log has a longer line than `LONGEST` says, so a buffer of that length has room for every one.
-use Prim.Native.Nat.{ℕ, zero, suc, _+_, _/_, _%_, _≤_, _<_, max}
+use Prim.Native.Nat.{ℕ, zero, suc, _+_, _-_, _*_, _/_, _%_, _≤_, _<_, max}
 use native.Mathlib.Omega.{arith}
 use mathlib.Core.Bool.{Bool, true, false, cond, _&&_}
 use mathlib.Core.List.{List, [], _∷_, _++_, map}
@@ -12,7 +12,7 @@ use borrow.Author.Tests.{leb-true, leb-false, le-leb}
 use Rattle.rules.specs.After.{lengthBytes, serviceChecks, first, only, handed, checked, after}
 use Rattle.rules.specs.Answers.{Part, nowhere, behind, deviation, deviation8, badLength, overflow, Outcome, positive, suppressed, negative, timeout, disconnected, transport, fault, refused, ifPositive, Answer, answer, refusal}
 use Rattle.rules.specs.Bytes.{u32At, every, isByte}
-use Rattle.rules.specs.Calls.{Call, request, session, reset, security, testerPresent, readMemory, writeMemory, readIdentifier, writeIdentifier, faultCount, routine, download, upload, transfer, transferExit, head, requestOf, suppresses}
+use Rattle.rules.specs.Calls.{Call, request, session, reset, security, testerPresent, readMemory, writeMemory, readIdentifier, writeIdentifier, faultCount, routine, download, upload, transfer, transferExit, faultList, head, requestOf, suppresses}
 use Rattle.rules.specs.Client.{Result, asked, eventsIn, refuse, answered, call}
 use Rattle.rules.specs.Conversations.{Every}
 use Rattle.rules.specs.Events.{Entry, entriesFrom, entries, Event, reply, idle, ended, failed, timeOf, named, eventOf, upTo, sound, rising, withinLimits}
@@ -180,6 +180,7 @@ module _ (p : Part) where
   handed-short (upload c e a s) = first-short (lengthBytes (p .bytes)) 2
   handed-short (transfer counter x) = behind-short 2
   handed-short (transferExit x) = behind-short 1
+  handed-short (faultList mask) = first-short ((length (behind 2 p .bytes) - 1) / 4 * 4 + 1) 2
 
 abbrev given : Outcome → List ℕ
 given o = ifPositive o (λ p. p .bytes) []

@@ -41,7 +41,7 @@ one-or-two (suc (suc (suc k))) h l = absurd (omega arith)
 
 -- The whole decision, from what the events and the areas told.
 pub laid : (l bs : List ℕ) (h : Header) {q r : Bool} → q ≡ areasOk h (length l) → bs ≡ eventBytes h l → r ≡ every eventOk (entries bs)
-    → all (leb headerSize (length l) ∷ eqb (h .version) 1 ∷ leb (h .call) 14 ∷ q ∷ r ∷ []) ≡ laidOut h l
+    → all (leb headerSize (length l) ∷ eqb (h .version) 1 ∷ leb (h .call) 15 ∷ q ∷ r ∷ []) ≡ laidOut h l
 laid l bs h eq eb er = rw (eq, er, eb)
 
 pub data-bytes : (h : Header) (l : List ℕ) → dataOf h l ≡ some? (eqb (flag 32 h) 1) (dataBytes h l)

@@ -36,9 +36,10 @@ fn uses_of(call: u8) -> Uses
         Uses(65535, 0, 255, 0, 0, 0),
         Uses(255, 0, 0, 0, 1, 0),
         Uses(0, 0, 0, 0, 1, 0),
+        Uses(255, 0, 0, 0, 0, 0),
     ];
     let i = call as usize;
-    if i < 15 {
+    if i < 16 {
         table[i]
     } else {
         Uses(0, 0, 0, 0, 0, 0)
@@ -191,7 +192,7 @@ pub fn laid_out(log: &[u8], h: Header) -> bool
     let tests = [
         HEADER_SIZE <= log.len(),
         h.version == 1,
-        h.call <= 14,
+        h.call <= 15,
         areas_ok(h, log.len()),
         events_ok(events_of(log, h)),
     ];

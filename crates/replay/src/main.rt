@@ -1,6 +1,7 @@
 // Replays the lists of data/ and prints how many lines of each are right. In `NAME.bin` each case stands after its length as u32, big-endian;
 // `NAME.expected` has the line of each.
 use blocks::Cut;
+use faults::Found;
 use lengths::Number;
 use libc::STDOUT_FILENO;
 use logs::text::Written;
@@ -14,6 +15,7 @@ enum List {
     Names,
     Memory,
     Alfid,
+    Selections,
 }
 
 // The longest data that is cut; a line has its digits, and is longer than any line of a log.
@@ -168,6 +170,40 @@ fn alfid_line(case: &[u8], line: &mut [u8]) -> Written {
     )
 }
 
+// Where a record begins; past every record where there is none.
+fn begins(found: Found) -> usize {
+    match found {
+        Found::At(at) => at,
+        Found::Nothing => usize::MAX,
+    }
+}
+
+// A mask and records. The line: how many are selected, and these.
+fn select_line(case: &[u8], line: &mut [u8]) -> Written {
+    let mask = wire::byte_at(case, 0);
+    let records = part(case, 1, case.len());
+    let n = faults::count(mask, records);
+    if n > 1000 {
+        return Written::NoRoom;
+    }
+    let mut chosen = [0u8; 4000];
+    let mut k = 0;
+    while k < n {
+        let at = begins(faults::selected(mask, records, k));
+        wire::copy_into(&mut chosen, k * 4, part(records, at, 4));
+        k += 1;
+    }
+    put_line(
+        line,
+        b"select",
+        n as u64,
+        0,
+        0,
+        b"",
+        part(&chosen, 0, n * 4),
+    )
+}
+
 fn line_of(list: List, case: &[u8], line: &mut [u8]) -> Written {
     match list {
         List::Logs => log_line::line_of(case, line),
@@ -175,6 +211,7 @@ fn line_of(list: List, case: &[u8], line: &mut [u8]) -> Written {
         List::Names => name_line(case, line),
         List::Memory => memory_line(case, line),
         List::Alfid => alfid_line(case, line),
+        List::Selections => select_line(case, line),
     }
 }
 
@@ -249,6 +286,9 @@ fn main() {
     let logs = os::open_read(b"logs.bin");
     let log_lines = os::open_read(b"logs.expected");
     say(b"logs", replay(List::Logs, logs, log_lines));
+    let listings = os::open_read(b"listings.bin");
+    let listing_lines = os::open_read(b"listings.expected");
+    say(b"listings", replay(List::Logs, listings, listing_lines));
     let blocks = os::open_read(b"blocks.bin");
     let block_lines = os::open_read(b"blocks.expected");
     say(b"blocks", replay(List::Blocks, blocks, block_lines));
@@ -261,4 +301,10 @@ fn main() {
     let alfid = os::open_read(b"alfid.bin");
     let alfid_lines = os::open_read(b"alfid.expected");
     say(b"alfid", replay(List::Alfid, alfid, alfid_lines));
+    let selections = os::open_read(b"selections.bin");
+    let selection_lines = os::open_read(b"selections.expected");
+    say(
+        b"selections",
+        replay(List::Selections, selections, selection_lines),
+    );
 }

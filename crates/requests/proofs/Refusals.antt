@@ -7,7 +7,7 @@ use mathlib.Core.Path.{_≡_, refl, sym, ap, _∙_}
 use lib.Dec.{eqb}
 use lib.ListN.{length}
 use borrow.Author.Tests.{eq-eqb, ne-eqb}
-use Rattle.rules.specs.Calls.{Call, request, session, reset, security, testerPresent, readMemory, writeMemory, readIdentifier, writeIdentifier, faultCount, routine, download, upload, transfer, transferExit, Field, given, alfid, requestOf}
+use Rattle.rules.specs.Calls.{Call, request, session, reset, security, testerPresent, readMemory, writeMemory, readIdentifier, writeIdentifier, faultCount, routine, download, upload, transfer, transferExit, faultList, Field, given, alfid, requestOf}
 use Rattle.rules.specs.InOrder.{Check, unless, judge}
 use Rattle.rules.specs.Events.{withinLimits}
 use Rattle.rules.specs.Refusals.{width, lengths, methods, arguments, refusals}
@@ -42,6 +42,7 @@ non-zero-arguments (download c e a s) = non-zero-load c e a s
 non-zero-arguments (upload c e a s) = non-zero-load c e a s
 non-zero-arguments (transfer counter d) = tt
 non-zero-arguments (transferExit d) = tt
+non-zero-arguments (faultList mask) = tt
 
 -- Document 01's judgement of a call, of which `refusal` answers n: `wrong` takes a refusal's number, x is the answer of a call that is not refused.
 module _ {B : Type 0} (wrong : ℕ → B) (quiet : Bool) (c : Call) (buffer events replies : List ℕ) (x : B) (n : ℕ) (told : n ≡ refusalOf quiet c (length buffer)) where

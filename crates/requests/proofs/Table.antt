@@ -33,6 +33,7 @@ module _ (a s : Field) (d : List ℕ) where
   same-row (call.RequestUpload c e) = refl
   same-row (call.TransferData counter p) = refl
   same-row (call.RequestTransferExit p) = refl
+  same-row (call.ReadDTCInformationDTC mask) = refl
 
   pub same-arguments : (k : Call) → arguments (callFrom k a s d) ≡ refusing (rowOf k .takes) a s
   same-arguments (call.Request sid sub p) = refl
@@ -51,6 +52,7 @@ module _ (a s : Field) (d : List ℕ) where
   same-arguments (call.RequestUpload c e) = refl
   same-arguments (call.TransferData counter p) = refl
   same-arguments (call.RequestTransferExit p) = refl
+  same-arguments (call.ReadDTCInformationDTC mask) = refl
 
   pub number-is : (k : Call) → rules.numbered (callFrom k a s d) ≡ rowOf k .number
   number-is k = ap (λ r. r .number) (same-row k)

@@ -35,6 +35,7 @@ callFrom (call.RequestDownload c e) a s d = rules.download c e a s
 callFrom (call.RequestUpload c e) a s d = rules.upload c e a s
 callFrom (call.TransferData counter p) a s d = rules.transfer counter (dataOf p d)
 callFrom (call.RequestTransferExit p) a s d = rules.transferExit (dataOf p d)
+callFrom (call.ReadDTCInformationDTC mask) a s d = rules.faultList mask
 
 -- The slices that the code lends are address and size as bytes.
 abbrev pub callOf : Call → List ℕ → List ℕ → List ℕ → rules.Call

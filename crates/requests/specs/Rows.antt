@@ -47,6 +47,7 @@ rowOf (call.RequestDownload c e) = entry 11 0x34 sub.Absent (Load c e)
 rowOf (call.RequestUpload c e) = entry 12 0x35 sub.Absent (Load c e)
 rowOf (call.TransferData counter p) = entry 13 0x36 sub.Absent (Plain (One counter) p)
 rowOf (call.RequestTransferExit p) = entry 14 0x37 sub.Absent (Plain None p)
+rowOf (call.ReadDTCInformationDTC mask) = entry 15 0x19 (sub.Given 2) (Plain (One mask) Absent)
 
 abbrev pub numbersOf : Numbers → List ℕ
 numbersOf None = []

@@ -1,4 +1,4 @@
-// The fifteen calls, their requests into a lent buffer, and refusals 1 to 9.
+// The sixteen calls, their requests into a lent buffer, and refusals 1 to 9.
 use exchange::types::SubFunction;
 use parameters::Parameters;
 use rows::Numbers;
@@ -21,7 +21,7 @@ pub enum Data {
     Present,
 }
 
-// The calls 0 to 14 with their numbers, under the names of the Rust's services. Address, size and data stand beside it as slices.
+// The calls 0 to 15 with their numbers, under the names of the Rust's services. Address, size and data stand beside it as slices.
 pub enum Call {
     Request(u8, SubFunction, Data),
     DiagnosticSessionControl(u8),
@@ -38,6 +38,7 @@ pub enum Call {
     RequestUpload(u8, u8),
     TransferData(u8, Data),
     RequestTransferExit(Data),
+    ReadDTCInformationDTC(u8),
 }
 
 // A request, worked out once: its first bytes, which of the caller's slices stand behind them, and how long it is. A refused one has none of these.

@@ -146,5 +146,11 @@ pub fn row_of(call: Call) -> Row
             no_sub,
             Takes::Plain(Numbers::None, data),
         ),
+        Call::ReadDTCInformationDTC(mask) => entry(
+            15,
+            ServiceIdentifier::ReadDTCInformation,
+            SubFunction::Given(ReportType::ReportDTCByStatusMask),
+            Takes::Plain(Numbers::One(mask), Data::Absent),
+        ),
     }
 }

@@ -8,7 +8,7 @@ use lib.ListN.{getD}
 use mathlib.Core.Option.{none, some}
 use Rattle.rules.specs.After.{serviceChecks, handed, checked, after}
 use Rattle.rules.specs.Answers.{Part, Outcome, positive, suppressed, negative, timeout, disconnected, transport, fault, refused, ifPositive}
-use Rattle.rules.specs.Calls.{Call, request, session, reset, security, testerPresent, readMemory, writeMemory, readIdentifier, writeIdentifier, faultCount, routine, download, upload, transfer, transferExit, Field, given, alfid, numbered, requestOf}
+use Rattle.rules.specs.Calls.{Call, request, session, reset, security, testerPresent, readMemory, writeMemory, readIdentifier, writeIdentifier, faultCount, routine, download, upload, transfer, transferExit, faultList, Field, given, alfid, numbered, requestOf}
 use Rattle.rules.specs.InOrder.{Check}
 use Rattle.rules.specs.Client.{Result, asked, eventsIn, refuse, answered, call}
 use Rattle.rules.specs.Conversations.{Every}
@@ -63,6 +63,7 @@ by-arguments (download c e a s) = by-loading a s c e
 by-arguments (upload c e a s) = by-loading a s c e
 by-arguments (transfer counter d) = tt
 by-arguments (transferExit d) = tt
+by-arguments (faultList mask) = tt
 
 or-true-right : (b : Bool) → (b || true) ≡ true
 or-true-right true = refl

@@ -10,7 +10,7 @@ use borrow.Author.Tests.{leb-true, ltb-true}
 use Rattle.rules.specs.After.{blockLength, serviceChecks, handed, first, numberOf}
 use Rattle.rules.specs.Answers.{Part, part, behind, nowhere, Outcome, positive, suppressed, negative, timeout, disconnected, transport, fault, refused}
 use Rattle.rules.specs.Bytes.{value}
-use Rattle.rules.specs.Calls.{Call, request, session, reset, security, testerPresent, readMemory, writeMemory, readIdentifier, writeIdentifier, faultCount, routine, download, upload, transfer, transferExit, subOf, withBit7, head}
+use Rattle.rules.specs.Calls.{Call, request, session, reset, security, testerPresent, readMemory, writeMemory, readIdentifier, writeIdentifier, faultCount, routine, download, upload, transfer, transferExit, faultList, subOf, withBit7, head}
 use Rattle.rules.specs.Counts.{After}
 use Rattle.rules.specs.Events.{Event, reply, idle, ended, failed, timeOf}
 use Rattle.rules.specs.Exchange.{Asked, Step, pending, settles, echoing, look, Settled, State, start, hears, turn, silence, settle, exchange}
@@ -103,6 +103,7 @@ module _ (strict quiet : Bool) (at : ℕ) (r : List ℕ) where
       (λ h. omega (arith, leb-true 2 (length r) (p .0)), ltb-true (value (blockLength r)) (2 ^ 64) (p .1 .1 .1 .1 .1 .0))
   bounded (transfer counter x) p = (λ h. omega (arith, leb-true 2 (length r) (p .1 .0)), omega arith)
   bounded (transferExit x) p = (λ h. omega arith, omega arith)
+  bounded (faultList mask) p = (with-sub quiet 2, omega arith)
 
   pub data-inside : (c : Call) → head (withBit7 quiet (subOf c)) ≤ length r → Pass (serviceChecks strict c r) → handed c (part at r) .at ≤ at + length r
   data-inside c h p = bounded c p .0 h

@@ -14,7 +14,7 @@ use borrow.Author.Tests.{leb-true, leb-false, le-leb, lt-ltb, eqb-true, eqb-fals
 use Rattle.rules.specs.Answers.{Part, part, negative}
 use Rattle.rules.specs.Blocks.{block, counter, carried}
 use Rattle.rules.specs.Bytes.{value, bytesOf, two, every, isByte}
-use Rattle.rules.specs.Calls.{Call, request, session, reset, security, testerPresent, readMemory, writeMemory, readIdentifier, writeIdentifier, faultCount, routine, download, upload, transfer, transferExit, orNone, byte, withBit7, suppresses, Field, given, alfid, sent, memory, positiveSid, sidOf, requestOf}
+use Rattle.rules.specs.Calls.{Call, request, session, reset, security, testerPresent, readMemory, writeMemory, readIdentifier, writeIdentifier, faultCount, routine, download, upload, transfer, transferExit, faultList, orNone, byte, withBit7, suppresses, Field, given, alfid, sent, memory, positiveSid, sidOf, requestOf}
 use Rattle.rules.specs.Client.{Result, call}
 use Rattle.rules.specs.Conversations.{Waiting, notice, Closing, byNegative}
 use Rattle.rules.specs.Demand3.{Refused}
@@ -109,6 +109,7 @@ messages q (download c e a s) n p = let h = loads-in c e a s p in byte-cons (c *
 messages q (upload c e a s) n p = let h = loads-in c e a s p in byte-cons (c * 16 + e) (memory a s) (omega (arith, h .0, h .1)) (memory-bytes a s n (h .2))
 messages q (transfer counter d) n p = byte-cons counter (orNone d) (n .0) (n .1)
 messages q (transferExit d) n p = n
+messages q (faultList mask) n p = sub-bytes q 2 (mask ∷ []) (omega arith) (byte-cons mask [] n refl)
 
 module _ (w : Setting) where
   -- SID, sub-function and what follows.
@@ -142,6 +143,7 @@ module _ (w : Setting) where
   request-format (upload c e a s) n k p = let h = loads-in c e a s p in (h .0, h .1, h .2 .0, h .2 .1, refl)
   request-format (transfer counter d) n k p = refl
   request-format (transferExit d) n k p = refl
+  request-format (faultList mask) n k p = with-sub 0x19 2 (mask ∷ []) (omega arith)
 
   requests : (strict : Bool) (c : Call) (l : Lent) → InRange c → Recorded c → ¬ Refused (call strict w c l .answer .outcome) →
       let n = length (requestOf (w .quiet) c) in
@@ -172,6 +174,27 @@ module _ (w : Setting) where
   asking-out : (x : Option (List ℕ)) (d : List ℕ) → Iso.TransferRecord (direction x) d → Asking x d
   asking-out none d h = h
   asking-out (some y) d h = tt
+
+  -- Bytes in fours are the standard's records.
+  split : (l : List ℕ) → length l % 4 ≡ 0 → (faults : List Iso.DTCAndStatus) × (l ≡ Iso.listOfDTCAndStatusRecord faults)
+  split [] e = ([], refl)
+  split (a ∷ []) e = absurd (omega arith)
+  split (a ∷ b ∷ []) e = absurd (omega arith)
+  split (a ∷ b ∷ c ∷ []) e = absurd (omega arith)
+  split (a ∷ b ∷ c ∷ s ∷ l) e =
+      let r = split l (omega arith) in
+      (record { high = a; middle = b; low = c; status = s } ∷ r .0, ap (λ (k : List ℕ). a ∷ b ∷ c ∷ s ∷ k) (r .1))
+
+  reported : (d : List ℕ) → length d % 4 ≡ 1 → Iso.DTCReport d
+  reported [] e = absurd (omega arith)
+  reported (a ∷ l) e = let r = split l (omega arith) in (a, r .0, ap (λ (k : List ℕ). a ∷ k) (r .1))
+
+  in-fours : (faults : List Iso.DTCAndStatus) → length (Iso.listOfDTCAndStatusRecord faults) % 4 ≡ 0
+  in-fours [] = refl
+  in-fours (x ∷ faults) = omega (arith, in-fours faults)
+
+  report-length : (d : List ℕ) → Iso.DTCReport d → length d % 4 ≡ 1
+  report-length d r = omega (arith, ap (λ (l : List ℕ). length l) (r .2), in-fours (r .1))
 
   security-positive : (sub : ℕ) (x : Option (List ℕ)) (q b : Bool) (y r d : List ℕ) → eqb (sub % 2) 1 ≡ b
       → IsRow (security sub x) r d ↔ (Iso.ResponseFormat (cond b (Iso.RequestSeed q (sub % 128) y) (Iso.SendKey q (sub % 128) y)) r d × Beyond (security sub x) d)
@@ -238,6 +261,10 @@ module _ (w : Setting) where
       λ k. (0x76 ∷ counter ∷ [], (refl, asking-out x d (k .0 .1)), k .0 .0),
     )
     response-format (transferExit x) n = (λ h. (headed d (h .1) (h .2), none-beyond), λ k. (0x77 ∷ [], refl, k .0))
+    response-format (faultList mask) n = (
+      λ h. ((headed d (h .1 .0) (h .2), reported d (h .1 .1)), none-beyond),
+      λ k. (0x59 ∷ 0x02 ∷ [], (refl, report-length d (k .0 .1)), k .0 .0),
+    )
 
     positives : (c : Call) → InRange c → Iso.Message r → IsRow c r d ↔ (Iso.Response (service w c) r d × Beyond c d)
     positives c n m = let f = response-format c n in (λ h. let k = f .0 h in ((m, k .0), k .1), λ k. f .1 (k .0 .1, k .1))

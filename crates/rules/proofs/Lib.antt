@@ -16,6 +16,8 @@ pub mod LogRows
 pub mod BlockRows
 pub mod CodeRows
 pub mod Wide
+pub mod Faults
+pub mod FaultRows
 pub mod Layouts
 pub mod Unique
 pub mod Counts

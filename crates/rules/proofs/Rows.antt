@@ -13,7 +13,7 @@ use borrow.Author.Tests.{leb-true, ltb-true, eqb-true, eqb-false, lt-ltb, le-leb
 use Rattle.rules.specs.After.{bounds, exactly, resetLength, transferLength, lengthBytes, blockLength, loading, serviceChecks, first, handed}
 use Rattle.rules.specs.Answers.{part, behind}
 use Rattle.rules.specs.Bytes.{value, u16At, two, every, isByte}
-use Rattle.rules.specs.Calls.{Call, request, session, reset, security, testerPresent, readMemory, writeMemory, readIdentifier, writeIdentifier, faultCount, routine, download, upload, transfer, transferExit, Field, sent, format, memory, sidOf, subOf, positiveSid}
+use Rattle.rules.specs.Calls.{Call, request, session, reset, security, testerPresent, readMemory, writeMemory, readIdentifier, writeIdentifier, faultCount, routine, download, upload, transfer, transferExit, faultList, Field, sent, format, memory, sidOf, subOf, positiveSid}
 use Rattle.rules.specs.Demand3.{Named}
 use Rattle.rules.specs.Positives.{Loading, Asking, Positive}
 use Rattle.rules.proofs.Judging.{Pass, both}
@@ -172,6 +172,11 @@ module _ (at : ℕ) (r : List ℕ) (bytes : every isByte r ≡ true) where
       (opened2 r (leb-true 2 (length r) (p .1 .0)) ∙ ap₂ (λ (y z : ℕ). y ∷ z ∷ drop 2 r) e (eqb-true (getD r 1 0) counter (p .1 .1 .0)))
       refl
   row-in (transferExit x) n e o h p = made (transferExit x) (0x77 ∷ []) 1 refl (after-sid 0x77 e o) refl
+  row-in (faultList mask) n e o h p =
+      let whole = eqb-true (length r % 4) 3 (p .0) in
+      let size = length-drop 2 r in
+      made (faultList mask) (0x59 ∷ 0x02 ∷ []) 2 (refl, omega arith) (after-sub 0x59 2 e h)
+      (placed 2 (take-all ((length (drop 2 r) - 1) / 4 * 4 + 1) (drop 2 r) (omega arith)))
 
 -- The other way: a row's positive passes all strict checks, and its data is handed out at its place.
 pub record Fits (c : Call) (at : ℕ) (front d : List ℕ) : Type 0 where
@@ -321,3 +326,8 @@ module _ (at : ℕ) where
       )
       refl
   row-out (transferExit x) front d p = without (transferExit x) 0x77 [] d p refl refl refl tt refl
+  row-out (faultList mask) front d p =
+      let whole = p .1 in
+      with-sub (faultList mask) 0x59 2 [] d (p .0) refl refl refl
+      (eq-eqb (suc (suc (length d)) % 4) 3 (omega arith), (le-leb 3 (suc (suc (length d))) (omega arith), tt))
+      (in-place 2 (take-all ((length d - 1) / 4 * 4 + 1) d (omega arith)))

@@ -208,7 +208,7 @@ module _ (l : List ℕ) (bytes : every isByte l ≡ true) (ok : layoutOk l ≡ t
       let laid = both (laidOut h l) _ ok .0 in
       let long = both (leb headerSize (length l)) _ laid in
       let version = both (eqb (h .version) 1) _ (long .1) in
-      let call = both (leb (h .call) 14) _ (version .1) in
+      let call = both (leb (h .call) 15) _ (version .1) in
       placed h (length l) (both (areasOk h (length l)) _ (call .1) .0)
 
   -- The events stand behind the arguments, whole.

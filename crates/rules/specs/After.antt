@@ -1,5 +1,5 @@
 -- Document 01, "Checks after the positive, in order", the data handed out, the number of calls 11 and 12, and the session timing of call 1.
-use Prim.Native.Nat.{ℕ, _+_, _*_, _/_, _%_, _^_}
+use Prim.Native.Nat.{ℕ, _+_, _-_, _*_, _/_, _%_, _^_}
 use mathlib.Core.Bool.{Bool, true, cond, _&&_}
 use mathlib.Core.List.{List, [], _∷_}
 use mathlib.Core.Option.{Option, none, some}
@@ -7,7 +7,7 @@ use lib.Dec.{leb, ltb, eqb}
 use lib.ListN.{length, getD, take, drop}
 use Rattle.rules.specs.Answers.{Part, part, behind, Fault, deviation, overflow, lengthError, Outcome, positive, fault, ifPositive, Answer, answer}
 use Rattle.rules.specs.Bytes.{value, u16At, same}
-use Rattle.rules.specs.Calls.{Call, request, session, reset, security, testerPresent, readMemory, writeMemory, readIdentifier, writeIdentifier, faultCount, routine, download, upload, transfer, transferExit, sent, format, numbered, loads, head}
+use Rattle.rules.specs.Calls.{Call, request, session, reset, security, testerPresent, readMemory, writeMemory, readIdentifier, writeIdentifier, faultCount, routine, download, upload, transfer, transferExit, faultList, sent, format, numbered, loads, head}
 use Rattle.rules.specs.InOrder.{Check, unless, judge, inStrict}
 use Rattle.rules.specs.Settings.{Timing}
 
@@ -79,6 +79,8 @@ serviceChecks strict (upload c e a s) r = loading strict r (lengthBytes r) (valu
 serviceChecks strict (transfer counter x) r =
     bounds strict (transferLength x) none r ∷ atLeast strict 2 r ∷ strictly strict (eqb (getD r 1 0) counter) 7 ∷ []
 serviceChecks strict (transferExit x) r = []
+-- Document 02: "Strict total length must be 3 plus a multiple of 4, else deviation 8 (3, none)"; "fewer than one byte after the sub-function is a length outcome."
+serviceChecks strict (faultList mask) r = unless (inStrict strict (eqb (length r % 4) 3)) (lengthError strict 3 none) ∷ atLeast strict 3 r ∷ []
 
 -- A part's first n bytes; the part if it has n bytes, and else none of it.
 abbrev pub first : ℕ → Part → Part
@@ -86,6 +88,10 @@ first n p = part (p .at) (take n (p .bytes))
 
 abbrev pub only : ℕ → Part → Part
 only n p = first (cond (eqb (length (p .bytes)) n) n 0) p
+
+-- Document 02: "Handed out are the availability mask and the records; lenient drops a broken tail": one byte, and as many fours as there are.
+abbrev pub unbroken : Part → Part
+unbroken p = first ((length (p .bytes) - 1) / 4 * 4 + 1) p
 
 -- The data handed out of a reply. "In lenient, call 1 hands out its record only if exactly four bytes follow, call 2 its byte only if exactly one does, call 9 the first four, calls 5 and 6 all after the SID; the others as in the table. Call 0 hands out all after SID and sub-function."
 abbrev pub handed : Call → Part → Part
@@ -104,6 +110,7 @@ handed (download c e a s) p = first (lengthBytes (p .bytes)) (behind 2 p)
 handed (upload c e a s) p = first (lengthBytes (p .bytes)) (behind 2 p)
 handed (transfer counter x) p = behind 2 p
 handed (transferExit x) p = behind 1 p
+handed (faultList mask) p = unbroken (behind 2 p)
 
 -- "The checks after a positive come later still and keep its finishing time."
 unfoldable pub checked : Bool → Call → Part → Outcome

@@ -1,4 +1,4 @@
--- Document 01, "The calls": the fifteen calls and the requests that they send.
+-- Document 01, "The calls", and call 15 of document 02: the sixteen calls and the requests that they send.
 use Prim.Native.Nat.{ℕ, _+_, _*_, _%_}
 use mathlib.Core.Bool.{Bool, true, false, _||_}
 use mathlib.Core.List.{List, [], _∷_, _++_}
@@ -18,7 +18,7 @@ abbrev pub sent : Field → List ℕ
 sent (given bs) = bs
 sent (alfid v w wide) = bytesOf w v
 
--- The calls 0 to 14 with their arguments. Data that may be absent is an option: absent is not empty.
+-- The calls 0 to 15 with their arguments. Data that may be absent is an option: absent is not empty.
 pub data Call : Type 0 where
   request : ℕ → Option ℕ → Option (List ℕ) → Call
   session : ℕ → Call
@@ -35,8 +35,9 @@ pub data Call : Type 0 where
   upload : ℕ → ℕ → Field → Field → Call
   transfer : ℕ → Option (List ℕ) → Call
   transferExit : Option (List ℕ) → Call
+  faultList : ℕ → Call
 
--- "The suppressed client sets bit 7 in calls 0 (if it has a sub-function), 1, 2, 3, 4, 9, 10; in others it changes nothing."
+-- "The suppressed client sets bit 7 in calls 0 (if it has a sub-function), 1, 2, 3, 4, 9, 10; in others it changes nothing." And call 15: "It has a suppressed form."
 abbrev pub withBit7 : Bool → Option ℕ → Option ℕ
 withBit7 quiet none = none
 withBit7 true (some sub) = some (sub % 128 + 128)
@@ -95,6 +96,7 @@ table (download c e a s) = row 11 0x34 none ((c * 16 + e) ∷ memory a s)
 table (upload c e a s) = row 12 0x35 none ((c * 16 + e) ∷ memory a s)
 table (transfer counter d) = row 13 0x36 none (counter ∷ orNone d)
 table (transferExit d) = row 14 0x37 none (orNone d)
+table (faultList mask) = row 15 0x19 (some 2) (mask ∷ [])
 
 abbrev pub numbered : Call → ℕ
 numbered c = table c .number

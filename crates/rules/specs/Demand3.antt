@@ -1,4 +1,4 @@
--- Demand 3: a strict call of the fourteen named services that is not refused, with no overall timeout, "answers positive, negative or suppressed exactly when the events begin with a conversation that document 01 allows a rule-abiding controller for that request. Its answer, data and finishing time are those of that one conversation."
+-- Demand 3: a strict call of the fifteen named services that is not refused, with no overall timeout, "answers positive, negative or suppressed exactly when the events begin with a conversation that document 01 allows a rule-abiding controller for that request. Its answer, data and finishing time are those of that one conversation."
 use mathlib.Core.Bool.{true}
 use mathlib.Core.Path.{_≡_}
 use mathlib.Core.Logic.{_≢_, _↔_}
@@ -9,7 +9,7 @@ use Rattle.rules.specs.Client.{eventsIn, call}
 use Rattle.rules.specs.Conversations.{Conversation}
 use Rattle.rules.specs.Settings.{Setting, Lent}
 
--- One of the fourteen: any call but 0.
+-- One of the fifteen: any call but 0.
 abbrev pub Named : Call → Type 0
 Named c = numbered c ≢ 0
 

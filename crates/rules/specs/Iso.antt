@@ -57,6 +57,7 @@ pub data Service : Type 0 where
   ReadDataByIdentifier : ℕ → Service
   WriteDataByIdentifier : ℕ → List ℕ → Service
   ReportNumberOfDTCByStatusMask : Bool → ℕ → Service
+  ReportDTCByStatusMask : Bool → ℕ → Service
   RoutineControl : Bool → ℕ → ℕ → List ℕ → Service
   RequestDownload : ℕ → ℕ → List ℕ → List ℕ → Service
   RequestUpload : ℕ → ℕ → List ℕ → List ℕ → Service
@@ -75,6 +76,7 @@ RequestFormat (WriteMemoryByAddress a s d) r = FieldLength a × FieldLength s ×
 RequestFormat (ReadDataByIdentifier id) r = Identifier id × (r ≡ 0x22 ∷ bytesOf 2 id)
 RequestFormat (WriteDataByIdentifier id d) r = Identifier id × (1 ≤ length d) × (r ≡ 0x2e ∷ bytesOf 2 id ++ d)
 RequestFormat (ReportNumberOfDTCByStatusMask q mask) r = r ≡ 0x19 ∷ subFunction q 0x01 ∷ mask ∷ []
+RequestFormat (ReportDTCByStatusMask q mask) r = r ≡ 0x19 ∷ subFunction q 0x02 ∷ mask ∷ []
 RequestFormat (RoutineControl q t id d) r = (t < 128) × Identifier id × (r ≡ 0x31 ∷ subFunction q t ∷ bytesOf 2 id ++ d)
 RequestFormat (RequestDownload c e a s) r = Nibble c × Nibble e × FieldLength a × FieldLength s × (r ≡ 0x34 ∷ nibbles c e ∷ memoryFields a s)
 RequestFormat (RequestUpload c e a s) r = Nibble c × Nibble e × FieldLength a × FieldLength s × (r ≡ 0x35 ∷ nibbles c e ∷ memoryFields a s)
@@ -101,6 +103,21 @@ abbrev pub TransferRecord : Direction → List ℕ → Type 0
 TransferRecord downloads d = Unit {0}
 TransferRecord uploads d = 1 ≤ length d
 
+-- §11.3.3: listOfDTCAndStatusRecord, of each fault the DTC's high, middle and low byte and its status.
+pub record DTCAndStatus : Type 0 where
+  pub high : ℕ
+  pub middle : ℕ
+  pub low : ℕ
+  pub status : ℕ
+
+abbrev pub listOfDTCAndStatusRecord : List DTCAndStatus → List ℕ
+listOfDTCAndStatusRecord [] = []
+listOfDTCAndStatusRecord (x ∷ xs) = x .high ∷ x .middle ∷ x .low ∷ x .status ∷ listOfDTCAndStatusRecord xs
+
+-- §11.3.3: DTCStatusAvailabilityMask, then zero or more of them.
+abbrev pub DTCReport : List ℕ → Type 0
+DTCReport d = (availability : ℕ) × (faults : List DTCAndStatus) × (d ≡ availability ∷ listOfDTCAndStatusRecord faults)
+
 -- The positive response r of a service; d is the record behind its fixed part, empty where it has none.
 abbrev pub ResponseFormat : Service → List ℕ → List ℕ → Type 0
 ResponseFormat (DiagnosticSessionControl q t) r d = (r ≡ 0x50 ∷ t ∷ d) × (length d ≡ 4)
@@ -113,6 +130,7 @@ ResponseFormat (WriteMemoryByAddress a s x) r d = (r ≡ 0x7d ∷ d) × (d ≡ m
 ResponseFormat (ReadDataByIdentifier id) r d = (r ≡ 0x62 ∷ bytesOf 2 id ++ d) × (1 ≤ length d)
 ResponseFormat (WriteDataByIdentifier id x) r d = (r ≡ 0x6e ∷ bytesOf 2 id ++ d) × (d ≡ [])
 ResponseFormat (ReportNumberOfDTCByStatusMask q mask) r d = (r ≡ 0x59 ∷ 0x01 ∷ d) × (length d ≡ 4)
+ResponseFormat (ReportDTCByStatusMask q mask) r d = (r ≡ 0x59 ∷ 0x02 ∷ d) × DTCReport d
 ResponseFormat (RoutineControl q t id x) r d = r ≡ 0x71 ∷ t ∷ bytesOf 2 id ++ d
 ResponseFormat (RequestDownload c e a s) r d = BlockLength 0x74 d r
 ResponseFormat (RequestUpload c e a s) r d = BlockLength 0x75 d r

@@ -10,7 +10,7 @@ use lib.ListN.{length, take, drop}
 use Rattle.rules.specs.Answers.{Part, negative}
 use Rattle.rules.specs.Blocks.{block, counter, carried}
 use Rattle.rules.specs.Bytes.{value, every, isByte}
-use Rattle.rules.specs.Calls.{Call, request, session, reset, security, testerPresent, readMemory, writeMemory, readIdentifier, writeIdentifier, faultCount, routine, download, upload, transfer, transferExit, Field, given, alfid, sent, orNone, loads, positiveSid, sidOf, requestOf}
+use Rattle.rules.specs.Calls.{Call, request, session, reset, security, testerPresent, readMemory, writeMemory, readIdentifier, writeIdentifier, faultCount, routine, download, upload, transfer, transferExit, faultList, Field, given, alfid, sent, orNone, loads, positiveSid, sidOf, requestOf}
 use Rattle.rules.specs.Client.{call}
 use Rattle.rules.specs.Conversations.{Waiting, Closing}
 use Rattle.rules.specs.Demand3.{Refused}
@@ -73,6 +73,7 @@ standard (download c e a s) = like (λ q. Iso.RequestDownload c e (sent a) (sent
 standard (upload c e a s) = like (λ q. Iso.RequestUpload c e (sent a) (sent s)) (Fields a s) Any
 standard (transfer k d) = like (λ q. Iso.TransferData (direction d) k (orNone d)) (U8 k × Bytes (orNone d)) Any
 standard (transferExit d) = like (λ q. Iso.RequestTransferExit (orNone d)) (Bytes (orNone d)) Any
+standard (faultList mask) = like (λ q. Iso.ReportDTCByStatusMask q mask) (U8 mask) Any
 
 abbrev pub service : Setting → Call → Iso.Service
 service w c = standard c .service (suppressing w c)

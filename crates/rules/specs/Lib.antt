@@ -31,4 +31,6 @@ pub mod LogRows
 pub mod BlockRows
 pub mod CodeRows
 pub mod Wide
+pub mod Faults
+pub mod FaultRows
 pub mod Writing

@@ -8,7 +8,7 @@ use mathlib.Core.List.{List, [], _∷_, _++_, map}
 use mathlib.Core.Option.{Option, none, some}
 use lib.ListN.{length, take, drop, replicate}
 use Rattle.rules.specs.Bytes.{bytesOf, two}
-use Rattle.rules.specs.Calls.{Call, request, session, reset, security, testerPresent, readMemory, writeMemory, readIdentifier, writeIdentifier, faultCount, routine, download, upload, transfer, transferExit, given}
+use Rattle.rules.specs.Calls.{Call, request, session, reset, security, testerPresent, readMemory, writeMemory, readIdentifier, writeIdentifier, faultCount, routine, download, upload, transfer, transferExit, faultList, given}
 use Rattle.rules.specs.Examples.{Said, says, idles, closes, breaks, raw, joined, entry, eventBytes, log}
 use Rattle.rules.specs.Lines.{ascii}
 use Rattle.rules.specs.Logs.{headerOf, callOf, settingOf, lineOf}
@@ -57,7 +57,7 @@ asks r = (settingOf (headerOf (r .log)), callOf (headerOf (r .log)) (r .log), li
 abbrev pub wants : LogRow → Setting × Call × List ℕ
 wants r = (r .setting, r .call, ascii (r .line))
 
--- Calls 0 to 14, each field and flag in use: arguments are address, size, data; lenient and strict; T, server timing, the suppressed client.
+-- Calls 0 to 15, each field and flag in use: arguments are address, size, data; lenient and strict; T, server timing, the suppressed client.
 unfoldable pub soundLogs : List LogRow
 soundLogs =
     logRow (logOf 0 0x39 0x2f 0x03 0 0 60 (0x01 ∷ 0x02 ∷ []) (says 10 (0x6f ∷ 0x03 ∷ 0xaa ∷ []) ∷ [])) (some 60) false false
@@ -102,7 +102,9 @@ soundLogs =
     logRow (logOf 13 0x01 0x01 0 0 0 0 [] (says 10 (0x76 ∷ 0x01 ∷ []) ∷ [])) none false false (transfer 0x01 none) "deviation 10 1 0 087601\n" ∷
     logRow (logOf 14 0x20 0 0 0 0 0 (0xaa ∷ 0xbb ∷ []) (says 10 (0x00 ∷ 0xcc ∷ []) ∷ [])) none false false
     (transferExit (some (0xaa ∷ 0xbb ∷ []))) "positive 10 1 0 cc\n" ∷
-    logRow (logOf 14 0x03 0 0 0 0 0 [] (says 10 (0x77 ∷ []) ∷ [])) none true false (transferExit none) "positive 10 1 0 -\n" ∷ []
+    logRow (logOf 14 0x03 0 0 0 0 0 [] (says 10 (0x77 ∷ []) ∷ [])) none true false (transferExit none) "positive 10 1 0 -\n" ∷
+    logRow (logOf 15 0x01 0xff 0 0 0 0 [] (says 10 (0x59 ∷ 0x02 ∷ 0xff ∷ 0x12 ∷ 0x34 ∷ 0x56 ∷ 0x08 ∷ []) ∷ [])) none false false
+    (faultList 0xff) "positive 10 1 0 ff12345608\n" ∷ []
 
 -- A refusal in a sound layout: the lengths and the methods as bytes, a request of more than 4,095 (one of 4,095 is sent, so 9 cannot come
 -- up), and each bad event.
@@ -171,10 +173,14 @@ unusedFields =
     logOf 14 0x21 0x01 0 0 0 0 [] [] ∷
     logOf 14 0x21 0 0x01 0 0 0 [] [] ∷
     logOf 14 0x21 0 0 1 0 0 (0x20 ∷ []) [] ∷
-    logOf 14 0x31 0 0 0 0 0 [] [] ∷ []
+    logOf 14 0x31 0 0 0 0 0 [] [] ∷
+    logOf 15 0x01 0x0100 0 0 0 0 [] [] ∷
+    logOf 15 0x01 0 0x02 0 0 0 [] [] ∷
+    logOf 15 0x01 0 0 1 0 0 (0x20 ∷ []) [] ∷
+    logOf 15 0x11 0 0 0 0 0 [] [] ∷ []
 
 -- Flag 32 where a call has no data, and its want where calls 6 and 8 need it; data bytes without it; fewer bytes than the lengths say;
--- bits 6 and 7; T without flag 8; call 15.
+-- bits 6 and 7; T without flag 8; call 16.
 unfoldable pub unusedFlags : List (List ℕ)
 unusedFlags =
     logOf 1 0x21 0 0x03 0 0 0 [] [] ∷
@@ -183,6 +189,7 @@ unusedFlags =
     logOf 5 0x21 0 0 1 1 0 (0x20 ∷ 0x10 ∷ []) [] ∷
     logOf 7 0x21 0xf190 0 0 0 0 [] [] ∷
     logOf 9 0x21 0xff 0 0 0 0 [] [] ∷
+    logOf 15 0x21 0xff 0 0 0 0 [] [] ∷
     logOf 11 0x21 0 0 1 1 0 (0x20 ∷ 0x10 ∷ []) [] ∷
     logOf 12 0x21 0 0 1 1 0 (0x20 ∷ 0x10 ∷ []) [] ∷
     logOf 6 0x01 0 0 1 1 0 (0x20 ∷ 0x10 ∷ []) [] ∷
@@ -194,7 +201,7 @@ unusedFlags =
     logOf 14 0x41 0 0 0 0 0 [] [] ∷
     logOf 14 0x81 0 0 0 0 0 [] [] ∷
     logOf 4 0x01 0 0 0 0 1 [] [] ∷
-    logOf 15 0x01 0 0 0 0 0 [] [] ∷
+    logOf 16 0x01 0 0 0 0 0 [] [] ∷
     -- An event with an unused field, read or not.
     logOf 4 0x01 0 0 0 0 0 [] (raw (entry 20 1 1 0) ∷ []) ∷
     logOf 4 0x01 0 0 0 0 0 [] (raw (entry 20 1 0 1) ∷ []) ∷

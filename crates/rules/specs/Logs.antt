@@ -7,7 +7,7 @@ use lib.Dec.{leb, eqb}
 use lib.ListN.{length, getD, take, drop, replicate}
 use Rattle.rules.specs.Answers.{Answer}
 use Rattle.rules.specs.Bytes.{u16At, u32At, every}
-use Rattle.rules.specs.Calls.{Call, request, session, reset, security, testerPresent, readMemory, writeMemory, readIdentifier, writeIdentifier, faultCount, routine, download, upload, transfer, transferExit, Field, given, orNone}
+use Rattle.rules.specs.Calls.{Call, request, session, reset, security, testerPresent, readMemory, writeMemory, readIdentifier, writeIdentifier, faultCount, routine, download, upload, transfer, transferExit, faultList, Field, given, orNone}
 use Rattle.rules.specs.Client.{call}
 use Rattle.rules.specs.Events.{Entry, eventSize, entries}
 use Rattle.rules.specs.Lines.{line, badlog}
@@ -102,7 +102,7 @@ mayHaveData u = uses (u .value) (u .sub) (u .lengths) (u .named) 1 (u .must)
 abbrev pub needsData : Uses → Uses
 needsData u = uses (u .value) (u .sub) (u .lengths) (u .named) 1 1
 
--- "value u16 (SID, id, mask, counter, or compression × 256 + encryption)"; a row for each call, 0 to 14.
+-- "value u16 (SID, id, mask, counter, or compression × 256 + encryption)"; a row for each call, 0 to 15.
 abbrev pub usesByCall : List Uses
 usesByCall =
     aByte (flag16 (mayHaveData nothing)) ∷
@@ -119,7 +119,8 @@ usesByCall =
     aPair (bothLengths nothing) ∷
     aPair (bothLengths nothing) ∷
     aByte (mayHaveData nothing) ∷
-    mayHaveData nothing ∷ []
+    mayHaveData nothing ∷
+    aByte nothing ∷ []
 
 abbrev pub usesOf : ℕ → Uses
 usesOf c = getD usesByCall c nothing
@@ -180,7 +181,7 @@ laidOut h l =
     all
     (leb headerSize (length l) ∷
     eqb (h .version) 1 ∷
-    leb (h .call) 14 ∷
+    leb (h .call) 15 ∷
     areasOk h (length l) ∷
     every eventOk (entries (eventBytes h l)) ∷ [])
 
@@ -202,7 +203,7 @@ abbrev pub dataOf : Header → List ℕ → Option (List ℕ)
 dataOf h l =
     some? (eqb (flag 32 h) 1) (area l (headerSize + h .addressLength + h .sizeLength) (h .arguments - (h .addressLength + h .sizeLength)))
 
--- The call of each number, 0 to 14.
+-- The call of each number, 0 to 15.
 abbrev pub choices : ℕ → ℕ → Option ℕ → Field → Field → Option (List ℕ) → List Call
 choices v sub named a s d =
     request v named d ∷
@@ -219,7 +220,8 @@ choices v sub named a s d =
     download (v / 256) (v % 256) a s ∷
     upload (v / 256) (v % 256) a s ∷
     transfer v d ∷
-    transferExit d ∷ []
+    transferExit d ∷
+    faultList v ∷ []
 
 abbrev pub callOf : Header → List ℕ → Call
 callOf h l =

@@ -6,7 +6,7 @@ use mathlib.Core.List.{List, [], _∷_}
 use mathlib.Core.Option.{Option, none, some}
 use lib.ListN.{length}
 use Rattle.rules.specs.Bytes.{value, two}
-use Rattle.rules.specs.Calls.{Call, request, session, reset, security, testerPresent, readMemory, writeMemory, readIdentifier, writeIdentifier, faultCount, routine, download, upload, transfer, transferExit, sent, memory}
+use Rattle.rules.specs.Calls.{Call, request, session, reset, security, testerPresent, readMemory, writeMemory, readIdentifier, writeIdentifier, faultCount, routine, download, upload, transfer, transferExit, faultList, sent, memory}
 
 -- "n0, n bytes": "Calls 11 and 12 need n 1..15 and a value of 3 up to 2^64 − 1."
 pub record Loading (sid : ℕ) (head d : List ℕ) : Type 0 where
@@ -39,3 +39,5 @@ Positive (download c e a s) head d = Loading 0x74 head d
 Positive (upload c e a s) head d = Loading 0x75 head d
 Positive (transfer counter x) head d = (head ≡ 0x76 ∷ counter ∷ []) × Asking x d
 Positive (transferExit x) head d = head ≡ 0x77 ∷ []
+-- Document 02: "59 02, an availability mask, then zero or more records of three fault-code bytes and one status byte"
+Positive (faultList mask) head d = (head ≡ 0x59 ∷ 0x02 ∷ []) × (length d % 4 ≡ 1)

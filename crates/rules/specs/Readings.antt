@@ -7,7 +7,7 @@ use mathlib.Core.List.{List, [], _∷_, _++_, map}
 use mathlib.Core.Option.{none, some}
 use lib.ListN.{replicate}
 use Rattle.rules.specs.Answers.{part, nowhere, Fault, deviation, deviation8, badLength, overflow, positive, suppressed, negative, timeout, disconnected, transport, fault, refused, Answer, answer, refusal}
-use Rattle.rules.specs.Calls.{Call, session, reset, security, readMemory, writeMemory, readIdentifier, writeIdentifier, faultCount, routine, download, transfer, given, alfid}
+use Rattle.rules.specs.Calls.{Call, session, reset, security, readMemory, writeMemory, readIdentifier, writeIdentifier, faultCount, routine, download, transfer, faultList, given, alfid}
 use Rattle.rules.specs.Client.{call}
 use Rattle.rules.specs.Examples.{says, lent, setting, usual, gives, Example, whole, row, runs, tells, one, load}
 use Rattle.rules.specs.Lines.{ascii, line}
@@ -92,7 +92,8 @@ timings =
     adopts false true (session 0x03) (0x50 ∷ 0x03 ∷ 0x00 ∷ 0x19 ∷ 0xff ∷ 0xff ∷ []) (25, 655350) ∷
     adopts false true (session 0x03) (0x50 ∷ 0x03 ∷ 0x00 ∷ 0x19 ∷ 0xff ∷ 0xff ∷ 0x00 ∷ []) (50, 5000) ∷
     adopts true true (session 0x03) (0x50 ∷ 0x02 ∷ 0x00 ∷ 0x19 ∷ 0xff ∷ 0xff ∷ []) (50, 5000) ∷
-    adopts true true (faultCount 0xff) (0x59 ∷ 0x01 ∷ 0x00 ∷ 0x19 ∷ 0x01 ∷ 0xf4 ∷ []) (50, 5000) ∷ []
+    adopts true true (faultCount 0xff) (0x59 ∷ 0x01 ∷ 0x00 ∷ 0x19 ∷ 0x01 ∷ 0xf4 ∷ []) (50, 5000) ∷
+    adopts false true (faultList 0xff) (0x59 ∷ 0x02 ∷ 0x00 ∷ 0x19 ∷ 0x01 ∷ 0xf4 ∷ []) (50, 5000) ∷ []
 
 abbrev pub printed : List (Answer × String)
 printed =

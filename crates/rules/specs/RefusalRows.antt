@@ -7,7 +7,7 @@ use mathlib.Core.List.{List, [], _∷_, _++_, map}
 use mathlib.Core.Option.{none, some}
 use lib.ListN.{length, replicate}
 use Rattle.rules.specs.Answers.{Outcome, part, positive, suppressed, timeout, transport, refused}
-use Rattle.rules.specs.Calls.{Call, request, session, reset, security, testerPresent, readMemory, writeMemory, readIdentifier, writeIdentifier, faultCount, routine, download, upload, transfer, transferExit, Field, given, alfid}
+use Rattle.rules.specs.Calls.{Call, request, session, reset, security, testerPresent, readMemory, writeMemory, readIdentifier, writeIdentifier, faultCount, routine, download, upload, transfer, transferExit, faultList, Field, given, alfid}
 use Rattle.rules.specs.Client.{call}
 use Rattle.rules.specs.Examples.{Said, says, idles, raw, joined, eventBytes, entry, usual, gives, Example, whole, row}
 use Rattle.rules.specs.Pins.{Hold}
@@ -137,6 +137,7 @@ bufferRows =
     within 3 (readIdentifier 0x0102) [] timeout ∷
     within 3 (writeIdentifier 0x0102 []) [] timeout ∷
     within 3 (faultCount 0x02) [] timeout ∷
+    within 3 (faultList 0x02) [] timeout ∷
     within 4 (routine 0x02 0x0102 none) [] timeout ∷
     within 2 (transfer 0x02 none) [] timeout ∷
     within 1 (transferExit none) [] timeout ∷ []

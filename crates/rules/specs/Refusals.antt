@@ -5,7 +5,7 @@ use mathlib.Core.List.{List, [], _∷_, _++_}
 use mathlib.Core.Option.{Option, none, some}
 use lib.Dec.{leb, ltb, eqb}
 use lib.ListN.{length}
-use Rattle.rules.specs.Calls.{Call, request, session, reset, security, testerPresent, readMemory, writeMemory, readIdentifier, writeIdentifier, faultCount, routine, download, upload, transfer, transferExit, Field, given, alfid, sent}
+use Rattle.rules.specs.Calls.{Call, request, session, reset, security, testerPresent, readMemory, writeMemory, readIdentifier, writeIdentifier, faultCount, routine, download, upload, transfer, transferExit, faultList, Field, given, alfid, sent}
 use Rattle.rules.specs.InOrder.{Check, unless}
 use Rattle.rules.specs.Events.{withinLimits}
 
@@ -51,6 +51,7 @@ arguments (download c e a s) = width a ++ width s ++ methods c e ++ lengths a s
 arguments (upload c e a s) = width a ++ width s ++ methods c e ++ lengths a s
 arguments (transfer counter d) = []
 arguments (transferExit d) = []
+arguments (faultList mask) = []
 
 -- "8; 9; 10": "request longer than 4,095 bytes", "request buffer shorter than the request", "event list breaks a limit"
 abbrev pub refusals : Call → List ℕ → List ℕ → List ℕ → List ℕ → List (Check ℕ)

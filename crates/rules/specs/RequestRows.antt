@@ -6,7 +6,7 @@ use mathlib.Core.List.{List, [], _∷_, _++_, map}
 use mathlib.Core.Option.{none, some}
 use lib.ListN.{length, drop}
 use Rattle.rules.specs.Answers.{Outcome, suppressed, timeout}
-use Rattle.rules.specs.Calls.{Call, request, session, reset, security, testerPresent, readMemory, writeMemory, readIdentifier, writeIdentifier, faultCount, routine, download, upload, transfer, transferExit, given, alfid}
+use Rattle.rules.specs.Calls.{Call, request, session, reset, security, testerPresent, readMemory, writeMemory, readIdentifier, writeIdentifier, faultCount, routine, download, upload, transfer, transferExit, faultList, given, alfid}
 use Rattle.rules.specs.Client.{call}
 use Rattle.rules.specs.Examples.{blank, lent, setting}
 
@@ -42,6 +42,7 @@ requestRows =
     unchanged (readIdentifier 0xf190) (0x22 ∷ 0xf1 ∷ 0x90 ∷ []) ∷
     unchanged (writeIdentifier 0xf190 (0x41 ∷ 0x42 ∷ [])) (0x2e ∷ 0xf1 ∷ 0x90 ∷ 0x41 ∷ 0x42 ∷ []) ∷
     sends (faultCount 0x80) (0x19 ∷ 0x01 ∷ 0x80 ∷ []) timeout (0x19 ∷ 0x81 ∷ 0x80 ∷ []) suppressed ∷
+    sends (faultList 0x80) (0x19 ∷ 0x02 ∷ 0x80 ∷ []) timeout (0x19 ∷ 0x82 ∷ 0x80 ∷ []) suppressed ∷
     sends (routine 0x01 0xff00 (some (0x05 ∷ []))) (0x31 ∷ 0x01 ∷ 0xff ∷ 0x00 ∷ 0x05 ∷ []) timeout (0x31 ∷ 0x81 ∷ 0xff ∷ 0x00 ∷ 0x05 ∷ []) suppressed ∷
     sends (routine 0x02 0x0203 none) (0x31 ∷ 0x02 ∷ 0x02 ∷ 0x03 ∷ []) timeout (0x31 ∷ 0x82 ∷ 0x02 ∷ 0x03 ∷ []) suppressed ∷
     unchanged (download 1 2 (given (0x20 ∷ 0x00 ∷ [])) (given (0x10 ∷ []))) (0x34 ∷ 0x12 ∷ 0x12 ∷ 0x20 ∷ 0x00 ∷ 0x10 ∷ []) ∷

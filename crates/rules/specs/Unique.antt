@@ -6,7 +6,7 @@ use mathlib.Core.List.{List, [], _∷_, _++_, map}
 use lib.ListN.{length}
 use Rattle.rules.specs.After.{numberOf}
 use Rattle.rules.specs.Answers.{Answer, answer, part, nowhere, positive, suppressed, negative}
-use Rattle.rules.specs.Calls.{Call, session, reset, security, testerPresent, readMemory, writeMemory, readIdentifier, writeIdentifier, faultCount, routine, download, upload, transfer, transferExit, given, sidOf, numbered}
+use Rattle.rules.specs.Calls.{Call, session, reset, security, testerPresent, readMemory, writeMemory, readIdentifier, writeIdentifier, faultCount, routine, download, upload, transfer, transferExit, faultList, given, sidOf, numbered}
 use Rattle.rules.specs.Client.{call}
 use Rattle.rules.specs.Conversations.{Closed, Silent, Conversation}
 use Rattle.rules.specs.Events.{Event, reply}
@@ -22,7 +22,7 @@ pub record Unique : Type 0 where
   pub apart : (w : Setting) (c : Call) (es : List Event) (x y : Answer) → Closed w c es x → Silent w c es y → ⊥
   pub answers : (w : Setting) (c : Call) (es : List Event) (x y : Answer) → Conversation w c es x → Conversation w c es y → x ≡ y
 
--- A positive for each of the fourteen services.
+-- A positive for each of the fifteen services.
 pub record Sample : Type 0 where
   pub call : Call
   pub head : List ℕ
@@ -46,7 +46,8 @@ samples =
     sample (download 0 0 (given (0x20 ∷ 0x00 ∷ [])) (given (0x10 ∷ 0x00 ∷ []))) (0x74 ∷ 0x20 ∷ []) (0x0f ∷ 0xfa ∷ []) ∷
     sample (upload 0 0 (given (0x20 ∷ 0x00 ∷ [])) (given (0x10 ∷ 0x00 ∷ []))) (0x75 ∷ 0x20 ∷ []) (0x0f ∷ 0xfa ∷ []) ∷
     sample (transfer 0x01 (some (0xaa ∷ []))) (0x76 ∷ 0x01 ∷ []) [] ∷
-    sample (transferExit none) (0x77 ∷ []) [] ∷ []
+    sample (transferExit none) (0x77 ∷ []) [] ∷
+    sample (faultList 0x08) (0x59 ∷ 0x02 ∷ []) (0xff ∷ 0x12 ∷ 0x34 ∷ 0x56 ∷ 0x08 ∷ []) ∷ []
 
 -- Every call can be closed by a refusal and, where it is suppressed, by silence; every positive of the table closes a conversation, behind a notice also under suppression. Each service has such a positive, and its call is answered by it.
 pub record Witnessed : Type 0 where
@@ -58,6 +59,6 @@ pub record Witnessed : Type 0 where
       let p = part 3 (head ++ d) in
       Closed w c (reply 0 (part 0 (0x7f ∷ sidOf c ∷ 0x78 ∷ [])) ∷ reply 0 p ∷ [])
       (answer (positive (part (p .at + length head) d)) (cond (suppressing w c) (max 0 (w .timing .p2)) 0) 2 1 p)
-  pub services : map (λ s. numbered (s .call)) samples ≡ 1 ∷ 2 ∷ 3 ∷ 4 ∷ 5 ∷ 6 ∷ 7 ∷ 8 ∷ 9 ∷ 10 ∷ 11 ∷ 12 ∷ 13 ∷ 14 ∷ []
+  pub services : map (λ s. numbered (s .call)) samples ≡ 1 ∷ 2 ∷ 3 ∷ 4 ∷ 5 ∷ 6 ∷ 7 ∷ 8 ∷ 9 ∷ 10 ∷ 11 ∷ 12 ∷ 13 ∷ 14 ∷ 15 ∷ []
   pub answered : map (λ s. told (call true usual (s .call) (lent (says 10 (s .head ++ s .payload) ∷ [])))) samples
       ≡ map (λ s. gives (positive (part (length (s .head)) (s .payload))) 10 1 0 (numberOf (s .call) (positive (part 0 (s .payload))))) samples

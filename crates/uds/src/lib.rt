@@ -14,7 +14,7 @@ ghost use mathlib.Core.Bool.{Bool};
 ghost use mathlib.Core.List.{[]};
 ghost use mathlib.Core.Path.{_≡_};
 ghost use Rattle.rules.specs.Calls as rules;
-ghost use Rattle.rules.specs.Calls.{session, reset, security, testerPresent, readMemory, writeMemory, readIdentifier, writeIdentifier, faultCount, routine, download, upload, transfer, transferExit, alfid};
+ghost use Rattle.rules.specs.Calls.{session, reset, security, testerPresent, readMemory, writeMemory, readIdentifier, writeIdentifier, faultCount, faultList, routine, download, upload, transfer, transferExit, alfid};
 ghost use Rattle.exchange.specs.Meaning.{subOf};
 ghost use Rattle.requests.specs.Meaning.{dataOf, callFrom, callOf};
 ghost use Rattle.uds.specs.Clients.{sessionOf, askOf, Asks};
@@ -399,6 +399,27 @@ impl UDSClient {
         self.call(
             false,
             Call::ReadDTCInformation(mask),
+            b"",
+            request,
+            events,
+            replies,
+        )
+    }
+
+    // 0x19, sub-function 0x02 - Report the DTCs matching `mask`. Not one of the Rust's methods; `faults` selects among the records.
+    // 19 02 mask -> 59 02 + 1 + 4 for each DTC -> after the sub-function
+    pub fn read_dtc_information_dtc_by_status_mask(
+        self,
+        mask: u8,
+        request: &mut [u8],
+        events: &[u8],
+        replies: &[u8],
+    ) -> Answered
+        ensures { λ r. ⌜ Asks self Bool.false (faultList mask) (now (request .entry)) (now (events .entry)) (now (replies .entry)) r (now (request .exit)) ⌝ }
+    {
+        self.call(
+            false,
+            Call::ReadDTCInformationDTC(mask),
             b"",
             request,
             events,

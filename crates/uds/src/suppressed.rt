@@ -6,7 +6,7 @@ use requests::Call;
 use requests::Data;
 ghost use mathlib.Core.Bool.{Bool};
 ghost use Rattle.rules.specs.Calls as rules;
-ghost use Rattle.rules.specs.Calls.{session, reset, security, testerPresent, faultCount, routine};
+ghost use Rattle.rules.specs.Calls.{session, reset, security, testerPresent, faultCount, faultList, routine};
 ghost use Rattle.exchange.specs.Meaning.{subOf};
 ghost use Rattle.requests.specs.Meaning.{dataOf};
 ghost use Rattle.uds.specs.Clients.{Asks};
@@ -128,6 +128,27 @@ impl SuppressedUDSClient {
         client.call(
             true,
             Call::ReadDTCInformation(mask),
+            b"",
+            request,
+            events,
+            replies,
+        )
+    }
+
+    // 0x19, sub-function 0x02 - Report the DTCs matching `mask`.
+    pub fn read_dtc_information_dtc_by_status_mask(
+        self,
+        mask: u8,
+        request: &mut [u8],
+        events: &[u8],
+        replies: &[u8],
+    ) -> Answered
+        ensures { λ r. ⌜ Asks (self .client) Bool.true (faultList mask) (now (request .entry)) (now (events .entry)) (now (replies .entry)) r (now (request .exit)) ⌝ }
+    {
+        let client = self.client;
+        client.call(
+            true,
+            Call::ReadDTCInformationDTC(mask),
             b"",
             request,
             events,

@@ -74,7 +74,7 @@ pub struct Tally {
     no_counterpart: usize,
     by_generator: Vec<(&'static str, usize)>,
     by_outcome: BTreeMap<(&'static str, u8), usize>,
-    by_call: [usize; 15],
+    by_call: [usize; 16],
     strict: usize,
     suppressing: usize,
     not_handed_out: usize,
@@ -131,6 +131,10 @@ impl Tally {
         println!(
             "Data of calls 6, 11 and 12, which the original does not hand out and document 01's rule judges: {} cases.",
             self.not_handed_out
+        );
+        println!(
+            "Call 15, of which the exchange is the original's and the checks behind a positive are document 02's: {} cases.",
+            self.by_call[15]
         );
         println!(
             "Besides, without counterpart in the original and judged by document 01's rules (refusals 8 and 10): {}.",

@@ -1,5 +1,5 @@
-//! Document 01's rules as a small direct program without async, written from document 01 with the original in mind: a
-//! second opinion, and the baseline of the measurements.
+//! Document 01's rules, and document 02's for call 15, as a small direct program without async, written from these with
+//! the original in mind: a second opinion, and the baseline of the measurements.
 
 use crate::model::{
     Bounds, Call, Case, Data, Event, Memory, Observed, Outcome, Place, END, ERROR, IDLE, REPLY,
@@ -145,7 +145,8 @@ pub fn request_length(call: &Call) -> usize {
         Call::FaultCount { .. }
         | Call::Download { .. }
         | Call::Upload { .. }
-        | Call::Transfer { .. } => 1,
+        | Call::Transfer { .. }
+        | Call::FaultList { .. } => 1,
         _ => 0,
     };
     let data = call.data().map_or(0, <[u8]>::len);
@@ -210,9 +211,9 @@ fn write_request(case: &Case, buffer: &mut [u8]) -> usize {
         Call::ReadIdentifier { id }
         | Call::WriteIdentifier { id, .. }
         | Call::Routine { id, .. } => writer.put(&id.to_be_bytes()),
-        Call::FaultCount { mask: byte } | Call::Transfer { counter: byte, .. } => {
-            writer.put(&[*byte])
-        }
+        Call::FaultCount { mask: byte }
+        | Call::Transfer { counter: byte, .. }
+        | Call::FaultList { mask: byte } => writer.put(&[*byte]),
         Call::Download {
             compression,
             encryption,
@@ -426,6 +427,10 @@ fn check(case: &Case, reply: &[u8]) -> Option<Verdict> {
         Call::Transfer { counter, data } => at_least(if data.is_none() { 3 } else { 2 })
             .or_else(|| needs(2))
             .or_else(|| strictly(reply[1] == *counter, 7)),
+        // "Strict total length must be 3 plus a multiple of 4, else deviation 8 (3, none)"
+        Call::FaultList { .. } => (strict && length % 4 != 3)
+            .then(|| length_error(strict, 3, None))
+            .or_else(|| needs(3)),
     }
 }
 
@@ -475,6 +480,8 @@ fn handed(case: &Case, reply: &[u8]) -> (usize, usize) {
         Call::Routine { .. } => rest(4),
         Call::Download { .. } | Call::Upload { .. } => (2, reply[1] as usize / 16),
         Call::Transfer { .. } => rest(2),
+        // "the availability mask and the records; lenient drops a broken tail"
+        Call::FaultList { .. } => (2, 1 + (reply.len() - 3) / 4 * 4),
     }
 }
 

@@ -84,7 +84,7 @@ pub const GENERATORS: [Generator; 17] = [
     },
 ];
 
-/// The long run: every reply of three bytes to every call, 1,275,068,416 cases, in two halves.
+/// The long run: every reply of three bytes to every call, 1,342,177,280 cases, in two halves.
 pub const EVERY_THREE_BYTES: [Generator; 2] = [
     Generator {
         name: "every reply of three bytes, strict",
@@ -163,6 +163,7 @@ pub fn sample_calls() -> Vec<Call> {
             data: some(&[0x77]),
         },
         Call::TransferExit { data: None },
+        Call::FaultList { mask: 0x08 },
     ]
 }
 
@@ -259,6 +260,7 @@ pub fn good_reply(call: &Call, rng: &mut Rng) -> Vec<u8> {
             reply.push(*counter);
             reply.extend(rng.bytes(few.max(data.is_none() as usize)));
         }
+        Call::FaultList { .. } => reply.extend(rng.bytes(1 + 4 * few)),
     }
     reply
 }
@@ -807,6 +809,7 @@ fn requests(rng: &mut Rng, visit: &mut Visit) {
                     answered(rng, Call::Security { sub: byte, data });
                 }
                 answered(rng, Call::FaultCount { mask: byte });
+                answered(rng, Call::FaultList { mask: byte });
                 let (sub, id) = (byte, rng.next() as u16);
                 let data = data.clone();
                 answered(rng, Call::Routine { sub, id, data });
@@ -1019,7 +1022,7 @@ fn some_memory(rng: &mut Rng) -> Memory {
 }
 
 fn some_call(rng: &mut Rng) -> Call {
-    let number = rng.below(15);
+    let number = rng.below(16);
     some_call_numbered(rng, number)
 }
 
@@ -1070,7 +1073,8 @@ fn some_call_numbered(rng: &mut Rng, number: usize) -> Call {
             counter: byte,
             data,
         },
-        _ => Call::TransferExit { data },
+        14 => Call::TransferExit { data },
+        _ => Call::FaultList { mask: byte },
     }
 }
 

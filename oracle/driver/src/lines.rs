@@ -8,6 +8,8 @@ use crate::{direct, log};
 #[derive(Debug, Clone, Copy, PartialEq, Eq)]
 pub enum Source {
     Original,
+    /// Call 15: the exchange is the original's, the checks behind a positive are document 02's.
+    Exchange,
     /// Refusals 8 to 10, which the original does not have.
     NoCounterpart(u8),
     BadLog,
@@ -29,7 +31,11 @@ pub fn line_of(original: &mut Original, log: &[u8]) -> (String, Source) {
                 let data = handed_by_rule(&case, &observed).to_vec();
                 observed.outcome = Outcome::Positive(Data::Bytes(data));
             }
-            (log::line(&observed), Source::Original)
+            let source = match case.call {
+                Call::FaultList { .. } => Source::Exchange,
+                _ => Source::Original,
+            };
+            (log::line(&observed), source)
         }
     }
 }
@@ -66,11 +72,12 @@ pub fn lines(logs: &str, expected: Option<&str>) -> Result<usize, String> {
             wanted.len()
         ));
     }
-    let (mut by_original, mut refused, mut bad, mut failed) = (0, 0, 0, 0);
+    let (mut by_original, mut by_exchange, mut refused, mut bad, mut failed) = (0, 0, 0, 0, 0);
     for (at, (log, wanted)) in logs.iter().zip(&wanted).enumerate() {
         let (line, source) = line_of(&mut original, log);
         match source {
             Source::Original => by_original += 1,
+            Source::Exchange => by_exchange += 1,
             Source::NoCounterpart(_) => refused += 1,
             Source::BadLog => bad += 1,
         }
@@ -80,8 +87,9 @@ pub fn lines(logs: &str, expected: Option<&str>) -> Result<usize, String> {
         }
     }
     println!(
-        "{by_original} lines are the original's; {refused} logs with refusal 8 or 10 and {bad} bad logs have no \
-         counterpart there, and their lines are document 01's."
+        "{by_original} lines are the original's; {by_exchange} lines of call 15 are by its exchange and document 02's \
+         checks; {refused} logs with refusal 8 or 10 and {bad} bad logs have no counterpart there, and their lines are \
+         document 01's."
     );
     println!("{} passed, {failed} failed", logs.len() - failed);
     Ok(failed)

@@ -244,7 +244,7 @@ fn wanted() -> BTreeSet<String> {
     let mut wanted: BTreeSet<String> = words.map(String::from).into();
     wanted.extend((1..=15).map(|number| format!("deviation {number:02x}")));
     wanted.extend([1, 2, 3, 4, 5, 8, 10].map(|number| format!("refused {number:02x}")));
-    wanted.extend((0..15).map(|call| format!("call {call}")));
+    wanted.extend((0..16).map(|call| format!("call {call}")));
     wanted
 }
 
@@ -287,7 +287,7 @@ pub fn list(prefix: &str, seed: u64) -> Result<usize, String> {
     let mut seen = BTreeSet::new();
     let (mut file, mut lines) = (Vec::new(), String::new());
     let mut classes: BTreeMap<String, usize> = BTreeMap::new();
-    let (mut count, mut by_original) = (0, 0);
+    let (mut count, mut by_original, mut by_exchange) = (0, 0, 0);
     for log in logs {
         if !seen.insert(log.clone()) {
             continue;
@@ -295,6 +295,7 @@ pub fn list(prefix: &str, seed: u64) -> Result<usize, String> {
         let (line, source) = line_of(&mut original, &log);
         count += 1;
         by_original += (source == Source::Original) as usize;
+        by_exchange += (source == Source::Exchange) as usize;
         *classes.entry(class(&line)).or_default() += 1;
         if source != Source::BadLog {
             *classes.entry(format!("call {}", log[2])).or_default() += 1;
@@ -321,7 +322,8 @@ pub fn list(prefix: &str, seed: u64) -> Result<usize, String> {
     }
     println!(
         "{count} logs, {} bytes, in {prefix}.bin; {by_original} of the lines in {prefix}.expected are the original's, \
-         the rest (bad logs, refusals 8 and 10) document 01's.",
+         {by_exchange} (call 15) by its exchange and document 02's checks, the rest (bad logs, refusals 8 and 10) \
+         document 01's.",
         file.len()
     );
     Ok(0)

@@ -27,7 +27,7 @@ fn u32_at(bytes: &[u8], at: usize) -> u32 {
 
 /// What a call uses of the header: the largest value; whether sub and the two lengths are used; data forbidden (0),
 /// allowed (1) or needed (2). Call 0 uses sub with flag 16 only.
-const USES: [(u16, bool, bool, u8); 15] = [
+const USES: [(u16, bool, bool, u8); 16] = [
     (255, false, false, 1),
     (0, true, false, 0),
     (0, true, false, 0),
@@ -43,11 +43,12 @@ const USES: [(u16, bool, bool, u8); 15] = [
     (65535, false, true, 0),
     (255, false, false, 1),
     (0, false, false, 1),
+    (255, false, false, 0),
 ];
 
 /// The case that a log says, or none where its layout is bad.
 pub fn read(log: &[u8]) -> Option<Case> {
-    if log.len() < HEADER || u16_at(log, 0) != 1 || log[2] > 14 {
+    if log.len() < HEADER || u16_at(log, 0) != 1 || log[2] > 15 {
         return None;
     }
     let (number, flags) = (log[2], log[3]);
@@ -149,7 +150,8 @@ pub fn call_of(number: u8, flags: u8, value: u16, sub: u8, memory: Memory, data:
             memory,
         },
         13 => Call::Transfer { counter: low, data },
-        _ => Call::TransferExit { data },
+        14 => Call::TransferExit { data },
+        _ => Call::FaultList { mask: low },
     }
 }
 
@@ -190,7 +192,8 @@ pub fn fields_of(case: &Case) -> Fields {
     let value = match &case.call {
         Call::Request { sid: byte, .. }
         | Call::FaultCount { mask: byte }
-        | Call::Transfer { counter: byte, .. } => (*byte).into(),
+        | Call::Transfer { counter: byte, .. }
+        | Call::FaultList { mask: byte } => (*byte).into(),
         Call::ReadIdentifier { id }
         | Call::WriteIdentifier { id, .. }
         | Call::Routine { id, .. } => *id,
@@ -206,7 +209,10 @@ pub fn fields_of(case: &Case) -> Fields {
         } => u16::from_be_bytes([*compression, *encryption]),
         _ => 0,
     };
-    let fixed_sub = matches!(case.call, Call::TesterPresent | Call::FaultCount { .. });
+    let fixed_sub = matches!(
+        case.call,
+        Call::TesterPresent | Call::FaultCount { .. } | Call::FaultList { .. }
+    );
     let sub = case.call.sub().filter(|_| !fixed_sub);
     let flags = [
         (STRICT, setting.strict),

@@ -22,7 +22,7 @@ pub enum Memory {
     },
 }
 
-/// The calls 0 to 14 with their arguments. Data that may be absent is an option: absent is not empty.
+/// The calls 0 to 15 with their arguments. Data that may be absent is an option: absent is not empty.
 #[derive(Debug, Clone, PartialEq, Eq)]
 pub enum Call {
     Request {
@@ -80,10 +80,13 @@ pub enum Call {
     TransferExit {
         data: Option<Vec<u8>>,
     },
+    FaultList {
+        mask: u8,
+    },
 }
 
 impl Call {
-    /// The call's number in document 01.
+    /// The call's number in document 01; 15 is document 02's.
     pub fn number(&self) -> u8 {
         match self {
             Call::Request { .. } => 0,
@@ -101,13 +104,15 @@ impl Call {
             Call::Upload { .. } => 12,
             Call::Transfer { .. } => 13,
             Call::TransferExit { .. } => 14,
+            Call::FaultList { .. } => 15,
         }
     }
 
     /// The service identifier that the call sends.
     pub fn sid(&self) -> u8 {
-        const SIDS: [u8; 15] = [
+        const SIDS: [u8; 16] = [
             0, 0x10, 0x11, 0x27, 0x3e, 0x23, 0x3d, 0x22, 0x2e, 0x19, 0x31, 0x34, 0x35, 0x36, 0x37,
+            0x19,
         ];
         match self {
             Call::Request { sid, .. } => *sid,
@@ -125,6 +130,7 @@ impl Call {
             | Call::Routine { sub, .. } => Some(*sub),
             Call::TesterPresent => Some(0),
             Call::FaultCount { .. } => Some(1),
+            Call::FaultList { .. } => Some(2),
             _ => None,
         }
     }

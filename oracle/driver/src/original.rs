@@ -363,7 +363,42 @@ async fn ask(client: &UDSClient<'_, Mock<'_>>, case: &Case) -> automotive::Resul
         }
         Call::Transfer { counter, data } => by_either!(transfer_data(*counter, data.as_deref())),
         Call::TransferExit { data } => by_either!(request_transfer_exit(data.as_deref())),
+        Call::FaultList { mask } => {
+            let exchanged: Returned = by_either!(request(0x19u8, Some(0x02), Some(&[*mask])));
+            match exchanged {
+                Returned::Data(data) => listed_by_document_02(case.setting.strict, data)?,
+                silence => silence,
+            }
+        }
     })
+}
+
+/// Call 15 behind its positive: whether what stands behind the sub-function is a list of faults, and what of it is handed
+/// out. The original has no such method: the exchange is the original's own, by `request`, and the checks behind the
+/// positive, which stand here, are document 02's.
+fn listed_by_document_02(strict: bool, mut data: Vec<u8>) -> automotive::Result<Returned> {
+    // "Strict total length must be 3 plus a multiple of 4, else deviation 8 (3, none)"
+    if strict && data.len() % 4 != 1 {
+        let deviation = ProtocolDeviation::InvalidResponseLength {
+            minimum: 3,
+            maximum: None,
+        };
+        // The exchange was strict, so that this is the whole reply.
+        let response = [&[0x59, 0x02], &data[..]].concat();
+        return Err(UdsError::ProtocolDeviation {
+            deviation,
+            response,
+        }
+        .into());
+    }
+    // "fewer than one byte after the sub-function is a length outcome"
+    if data.is_empty() {
+        return Err(UdsError::InvalidResponseLength.into());
+    }
+    // "lenient drops a broken tail": of records of four bytes behind the availability mask
+    let tail = (data.len() - 1) % 4;
+    data.truncate(data.len() - tail);
+    Ok(Returned::Data(data))
 }
 
 /// A deviation's number, "in the order of `ProtocolDeviation`", and the bounds of number 8.

@@ -112,6 +112,9 @@ fn call_of(call: &Call) -> bintrochis::Call<'_> {
         Call::TransferExit { data } => Proved::RequestTransferExit {
             data: data.as_deref(),
         },
+        Call::FaultList { mask } => {
+            Proved::ReadDTCInformationDTCByStatusMask { status_mask: *mask }
+        }
     }
 }
 

@@ -13,20 +13,20 @@ cast-arguments c = search needs
 
 returns : tie.Need-returns
 unfolding fits
-returns c = rw (lt-leb (c .before .before .before .args .h .call) 14 (omega arith))
+returns c = rw (lt-leb (c .before .before .before .args .h .call) 15 (omega arith))
 
 returns-2 : tie.Need-returns-2
 unfolding fits
 returns-2 c =
     let x = c .before .before .before .before .args in
-    rw (le-leb (x .h .call) 14 (omega arith), lt-leb (x .h .arguments) (x .n) (omega arith))
+    rw (le-leb (x .h .call) 15 (omega arith), lt-leb (x .h .arguments) (x .n) (omega arith))
 
 returns-3 : tie.Need-returns-3
 unfolding fits
 returns-3 c =
     let x = c .before .before .before .before .before .before .args in
     rw (
-      le-leb (x .h .call) 14 (omega arith),
+      le-leb (x .h .call) 15 (omega arith),
       le-leb (x .h .arguments) (x .n) (omega arith),
       eq-eqb (flag 32 (said (x .h))) 1 (c .if3 .taken),
     )
@@ -36,7 +36,7 @@ unfolding fits
 returns-4 c =
     let x = c .before .before .before .before .before .before .args in
     rw (
-      le-leb (x .h .call) 14 (omega arith),
+      le-leb (x .h .call) 15 (omega arith),
       le-leb (x .h .arguments) (x .n) (omega arith),
       ne-eqb (flag 32 (said (x .h))) 1 (c .if3 .left),
     )

@@ -31,6 +31,9 @@ cast-t17 c = search needs
 cast-t18 : tie.Need-cast-t18
 cast-t18 c = omega (arith, sound-at (said (c .before .before .args .h)) 13 (c .match .keys14) (c .before .before .pre) .value)
 
+cast-t19 : tie.Need-cast-t19
+cast-t19 c = omega (arith, sound-at (said (c .before .before .args .h)) 15 (c .match .keys16) (c .before .before .pre) .value)
+
 returns : tie.Need-returns
 returns c = λ a s d. rw (c .before .match .keys1, c .sub-of .ensures, c .before .before .given-in .ensures, data-is)
 
@@ -77,7 +80,10 @@ returns-15 : tie.Need-returns-15
 returns-15 c = λ a s d. rw (c .match .keys15, c .before .given-in .ensures, data-is)
 
 returns-16 : tie.Need-returns-16
-returns-16 c = λ a s d. no-call (said (c .before .before .args .h)) a s d (above (c .before .before .args .h .call) 15 (c .match .rest))
+returns-16 c = λ a s d. rw (c .match .keys16)
+
+returns-17 : tie.Need-returns-17
+returns-17 c = λ a s d. no-call (said (c .before .before .args .h)) a s d (above (c .before .before .args .h .call) 16 (c .match .rest))
 
 given-in-requires : tie.Need-given-in-requires
 given-in-requires c κs = search needs
@@ -95,6 +101,7 @@ call-of-spec =
     cast-t15
     cast-t17
     cast-t18
+    cast-t19
     returns
     returns-2
     returns-3
@@ -110,4 +117,5 @@ call-of-spec =
     returns-13
     returns-14
     returns-15
-    returns-16)
+    returns-16
+    returns-17)

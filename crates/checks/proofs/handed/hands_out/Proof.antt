@@ -64,6 +64,12 @@ enum-told-12 c = search needs
 enum-told-13 : tie.Need-enum-told-13
 enum-told-13 c = search needs
 
+enum-told-14 : tie.Need-enum-told-14
+enum-told-14 c = search needs
+
+unbroken-requires : tie.Need-unbroken-requires
+unbroken-requires c κs = search needs
+
 returns : tie.Need-returns
 returns c = rw (
   (c .before .before .call .given .1),
@@ -127,6 +133,12 @@ returns-15 c = rw (c .enum-told12 .given .1)
 returns-16 : tie.Need-returns-16
 returns-16 c = rw (c .enum-told13 .given .1)
 
+returns-17 : tie.Need-returns-17
+returns-17 c = rw (
+  (c .before .enum-told14 .given .1),
+  (c .unbroken .ensures),
+)
+
 pub hands-out-spec : {M : Type 1} → statement M
 hands-out-spec =
     tie.close
@@ -151,6 +163,8 @@ hands-out-spec =
     length-bytes-requires-2
     enum-told-12
     enum-told-13
+    enum-told-14
+    unbroken-requires
     returns
     returns-2
     returns-3
@@ -166,4 +180,5 @@ hands-out-spec =
     returns-13
     returns-14
     returns-15
-    returns-16)
+    returns-16
+    returns-17)

@@ -180,6 +180,15 @@ returns-16 c = rw (c .before .before .before .call6 .given .1, ← (c .before .t
 returns-17 : tie.Need-returns-17
 returns-17 c = rw (c .enum-told9 .given .1)
 
+enum-told-10 : tie.Need-enum-told-10
+enum-told-10 c = search needs
+
+read-dtc-information-dtc-requires : tie.Need-read-dtc-information-dtc-requires
+read-dtc-information-dtc-requires c κs = search needs
+
+returns-18 : tie.Need-returns-18
+returns-18 c = rw (c .before .enum-told10 .given .1) (c .read-dtc-information-dtc .ensures)
+
 transfer-length-requires : tie.Need-transfer-length-requires
 transfer-length-requires c κs = search needs
 
@@ -220,6 +229,8 @@ verdict-spec =
     transfer-length-requires
     transfer-data-requires
     enum-told-9
+    enum-told-10
+    read-dtc-information-dtc-requires
     returns
     returns-2
     returns-3
@@ -236,4 +247,5 @@ verdict-spec =
     returns-14
     returns-15
     returns-16
-    returns-17)
+    returns-17
+    returns-18)

@@ -104,6 +104,12 @@ enum-known-call-12 c = search needs
 entry-requires-15 : tie.Need-entry-requires-15
 entry-requires-15 c κs = search needs
 
+enum-known-call-13 : tie.Need-enum-known-call-13
+enum-known-call-13 c = search needs
+
+entry-requires-16 : tie.Need-entry-requires-16
+entry-requires-16 c κs = search needs
+
 returns : tie.Need-returns
 returns c = (c .entry .ensures) ∙ rw ((c .before .before .call .given .1))
 
@@ -149,6 +155,9 @@ returns-14 c = (c .entry14 .ensures) ∙ rw ((c .before .before .call11 .given .
 returns-15 : tie.Need-returns-15
 returns-15 c = (c .entry15 .ensures) ∙ rw ((c .before .before .call12 .given .1))
 
+returns-16 : tie.Need-returns-16
+returns-16 c = (c .entry16 .ensures) ∙ rw ((c .before .before .call13 .given .1))
+
 pub row-of-spec : {M : Type 1} → statement M
 row-of-spec =
     tie.close
@@ -186,6 +195,8 @@ row-of-spec =
     entry-requires-14
     enum-known-call-12
     entry-requires-15
+    enum-known-call-13
+    entry-requires-16
     returns
     returns-2
     returns-3
@@ -200,4 +211,5 @@ row-of-spec =
     returns-12
     returns-13
     returns-14
-    returns-15)
+    returns-15
+    returns-16)

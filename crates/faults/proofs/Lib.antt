@@ -1,0 +1,2 @@
+-- What a turn of the selector's loops does.
+pub mod Laws

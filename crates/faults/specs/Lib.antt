@@ -1,0 +1,2 @@
+-- What the contracts of `faults` cite beside `rules`.
+pub mod Found
