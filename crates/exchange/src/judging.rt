@@ -16,17 +16,9 @@ use wire::part;
 ghost use mathlib.Core.Path.{_≡_};
 ghost use Rattle.rules.specs.Answers.{lengthError};
 ghost use Rattle.rules.specs.Calls as calls;
-ghost use Rattle.rules.specs.InOrder.{inStrict};
 ghost use Rattle.rules.specs.Exchange as rules;
 ghost use Rattle.exchange.specs.Meaning.{askedOf, subOf, maximumOf, faultOf, verdictOf, firstOf, partOf};
 ghost use Rattle.exchange.specs.Places.{Looked};
-
-// A test that counts in strict mode only.
-pub fn in_strict(strict: bool, test: bool) -> bool
-    ensures { λ r. ⌜ r ≡ inStrict strict test ⌝ }
-{
-    if strict { test } else { true }
-}
 
 // "A length error is deviation 8 (minimum, maximum) in strict, the plain length outcome in lenient."
 pub fn length_error(strict: bool, minimum: usize, maximum: Maximum) -> Fault
