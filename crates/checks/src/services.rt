@@ -3,7 +3,6 @@ use exchange::error::Fault;
 use exchange::error::Maximum;
 use exchange::error::ProtocolDeviation;
 use exchange::error::Verdict;
-use exchange::judging::in_strict;
 use exchange::judging::length_error;
 use lengths::Number;
 use lengths::block_length;
@@ -74,11 +73,10 @@ fn within(len: usize, minimum: usize, maximum: Maximum) -> bool
 fn bounded(strict: bool, minimum: usize, maximum: Maximum, reply: &[u8], next: Verdict) -> Verdict
     ensures { λ r. ⌜ verdictOf r ≡ judge some (bounds strict minimum (maximumOf maximum) (now (reply .entry)) ∷ []) (verdictOf next) ⌝ }
 {
-    if in_strict(strict, within(reply.len(), minimum, maximum)) {
-        next
-    } else {
-        Verdict::Failed(length_error(strict, minimum, maximum))
+    if strict && !within(reply.len(), minimum, maximum) {
+        return Verdict::Failed(length_error(strict, minimum, maximum));
     }
+    next
 }
 
 fn validate_response_length(strict: bool, reply: &[u8], minimum: usize, maximum: Maximum) -> Verdict
@@ -100,7 +98,7 @@ fn echoed(
     if reply.len() < needed {
         return Verdict::Failed(length_error(strict, needed, Maximum::None));
     }
-    if !in_strict(strict, repeats) {
+    if strict && !repeats {
         return Verdict::Failed(Fault::ProtocolDeviation(deviation));
     }
     Verdict::Passed
@@ -110,12 +108,12 @@ fn echoed(
 fn read_memory_by_address(strict: bool, size: &[u8], reply: &[u8]) -> Verdict
     ensures { λ r. ⌜ verdictOf r ≡ firstOf (serviceChecks strict (readMemory (given []) (given (now (size .entry)))) (now (reply .entry))) ⌝ }
 {
-    if !in_strict(strict, record_length_is(size, rest(reply, 1).len())) {
+    if strict && !record_length_is(size, rest(reply, 1).len()) {
         return Verdict::Failed(Fault::ProtocolDeviation(
             ProtocolDeviation::InvalidMemoryRecordLength,
         ));
     }
-    if !in_strict(strict, reply.len() >= 2) {
+    if strict && reply.len() < 2 {
         return Verdict::Failed(length_error(strict, 2, Maximum::None));
     }
     Verdict::Passed
@@ -127,21 +125,18 @@ fn write_memory_by_address(strict: bool, address: &[u8], size: &[u8], reply: &[u
     ensures { λ r. ⌜ verdictOf r ≡ firstOf (serviceChecks strict (writeMemory (given (now (address .entry))) (given (now (size .entry))) []) (now (reply .entry))) ⌝ }
 {
     let total = 2 + address.len() + size.len();
-    if !in_strict(strict, within(reply.len(), total, Maximum::At(total))) {
+    if strict && !within(reply.len(), total, Maximum::At(total)) {
         return Verdict::Failed(length_error(strict, total, Maximum::At(total)));
     }
-    if !in_strict(
-        strict,
-        wide(byte_at(reply, 1)) == size.len() * 16 + address.len(),
-    ) {
+    if strict && wide(byte_at(reply, 1)) != size.len() * 16 + address.len() {
         return Verdict::Failed(Fault::ProtocolDeviation(
             ProtocolDeviation::InvalidAddressAndLengthFormatIdentifier,
         ));
     }
-    if !in_strict(strict, same(part(reply, 2, address.len()), address)) {
+    if strict && !same(part(reply, 2, address.len()), address) {
         return Verdict::Failed(Fault::ProtocolDeviation(ProtocolDeviation::InvalidMemoryAddress));
     }
-    if !in_strict(strict, same(rest(rest(reply, 2), address.len()), size)) {
+    if strict && !same(rest(rest(reply, 2), address.len()), size) {
         return Verdict::Failed(Fault::ProtocolDeviation(ProtocolDeviation::InvalidMemorySize));
     }
     Verdict::Passed
@@ -169,7 +164,7 @@ fn read_dtc_information(strict: bool, reply: &[u8]) -> Verdict
     if reply.len() < 6 {
         return Verdict::Failed(length_error(strict, 6, Maximum::At(6)));
     }
-    if !in_strict(strict, reply.len() == 6) {
+    if strict && reply.len() != 6 {
         return Verdict::Failed(length_error(strict, 6, Maximum::At(6)));
     }
     Verdict::Passed
@@ -179,7 +174,7 @@ fn read_dtc_information(strict: bool, reply: &[u8]) -> Verdict
 fn read_dtc_information_dtc(strict: bool, reply: &[u8]) -> Verdict
     ensures { λ r. ⌜ verdictOf r ≡ firstOf (serviceChecks strict (faultList 0) (now (reply .entry))) ⌝ }
 {
-    if !in_strict(strict, reply.len() % 4 == 3) {
+    if strict && reply.len() % 4 != 3 {
         return Verdict::Failed(length_error(strict, 3, Maximum::None));
     }
     if reply.len() < 3 {
@@ -224,13 +219,12 @@ fn loaded(strict: bool, bytes: &[u8]) -> Verdict
     match block_length(bytes) {
         Number::Overflow => Verdict::Failed(Fault::BlockLengthOverflow),
         Number::Value(v) => {
-            if in_strict(strict, v >= 3) {
-                Verdict::Passed
-            } else {
-                Verdict::Failed(Fault::ProtocolDeviation(
+            if strict && v < 3 {
+                return Verdict::Failed(Fault::ProtocolDeviation(
                     ProtocolDeviation::InvalidMaxNumberOfBlockLength,
-                ))
+                ));
             }
+            Verdict::Passed
         }
     }
 }
@@ -249,19 +243,19 @@ fn request_download_upload(strict: bool, reply: &[u8]) -> Verdict
     if reply.len() < 2 {
         return Verdict::Failed(length_error(strict, 2, Maximum::None));
     }
-    if !in_strict(strict, byte_at(reply, 1) % 16 == 0) {
+    if strict && byte_at(reply, 1) % 16 != 0 {
         return Verdict::Failed(Fault::ProtocolDeviation(
             ProtocolDeviation::InvalidLengthFormatIdentifier,
         ));
     }
     let n = length_bytes(reply);
-    if !in_strict(strict, n > 0) {
+    if strict && n == 0 {
         return Verdict::Failed(Fault::ProtocolDeviation(ProtocolDeviation::InvalidLengthFormat));
     }
     if reply.len() < n + 2 {
         return Verdict::Failed(length_error(strict, n + 2, Maximum::At(n + 2)));
     }
-    if !in_strict(strict, reply.len() <= n + 2) {
+    if strict && reply.len() > n + 2 {
         return Verdict::Failed(length_error(strict, n + 2, Maximum::At(n + 2)));
     }
     loaded(strict, part(reply, 2, n))

@@ -2,6 +2,7 @@
 use Prim.Native.Nat.{ℕ, _≤_, _<_}
 use native.Mathlib.Omega.{arith}
 use mathlib.Core.Bool.{Bool, true, false, cond, not}
+use mathlib.Core.Logic.{_⊎_, inl, inr}
 use mathlib.Core.Path.{_≡_, refl, sym, ap, _∙_}
 use mathlib.Core.List.{List, [], _∷_, _++_}
 use mathlib.Core.Option.{Option, none, some}
@@ -38,6 +39,18 @@ first-append cs ds = judge-append some cs ds none ∙ judged some cs (firstOf ds
 passed : (t : Bool) (o : Option Fault) (f : Fault) → cond t o (some f) ≡ none → (t ≡ true) × (o ≡ none)
 passed true o f e = (refl, e)
 passed false o f e = let z : _≡_ {A = ℕ} 0 1 = cc in absurd (omega arith)
+
+-- `if strict && .. { return .. }` is a test that counts in strict mode only. Within, it fails; behind, it passes, or the mode is lenient.
+pub strict-fails : {strict test : Bool} → strict ≡ true → test ≡ false → inStrict strict test ≡ false
+strict-fails s e = rw (s, e)
+
+pub strict-passes : {A B : Type 0} {strict test : Bool} → A ⊎ B → (A → test ≡ true) → (B → strict ≡ false) → inStrict strict test ≡ true
+strict-passes (inr b) right lenient = rw (lenient b)
+strict-passes {strict = strict} (inl a) right lenient = passes strict (right a)
+  where
+    passes : (s : Bool) {t : Bool} → t ≡ true → inStrict s t ≡ true
+    passes true e = e
+    passes false e = refl
 
 -- A reply that is granted has the bytes before the data.
 echoed-head : (strict : Bool) (sub : Option ℕ) (r : List ℕ) (more : List (Check Fault)) → 0 < length r → firstOf (echoing strict sub r ++ more) ≡ none

@@ -16,17 +16,9 @@ use wire::part;
 ghost use mathlib.Core.Path.{_≡_};
 ghost use Rattle.rules.specs.Answers.{lengthError};
 ghost use Rattle.rules.specs.Calls as calls;
-ghost use Rattle.rules.specs.InOrder.{inStrict};
 ghost use Rattle.rules.specs.Exchange as rules;
 ghost use Rattle.exchange.specs.Meaning.{askedOf, subOf, maximumOf, faultOf, verdictOf, firstOf, partOf};
 ghost use Rattle.exchange.specs.Places.{Looked};
-
-// A test that counts in strict mode only.
-pub fn in_strict(strict: bool, test: bool) -> bool
-    ensures { λ r. ⌜ r ≡ inStrict strict test ⌝ }
-{
-    if strict { test } else { true }
-}
 
 // "A length error is deviation 8 (minimum, maximum) in strict, the plain length outcome in lenient."
 pub fn length_error(strict: bool, minimum: usize, maximum: Maximum) -> Fault
@@ -66,10 +58,10 @@ fn negative_checks(strict: bool, asked: Asked, reply: &[u8]) -> Verdict
     if reply.len() < 3 {
         return Verdict::Failed(length_error(strict, 3, Maximum::At(3)));
     }
-    if !in_strict(strict, reply.len() == 3) {
+    if strict && reply.len() != 3 {
         return Verdict::Failed(length_error(strict, 3, Maximum::At(3)));
     }
-    if !in_strict(strict, byte_at(reply, 1) == asked.sid) {
+    if strict && byte_at(reply, 1) != asked.sid {
         return Verdict::Failed(Fault::ProtocolDeviation(
             ProtocolDeviation::InvalidRequestServiceId,
         ));
@@ -87,7 +79,7 @@ fn echoing(strict: bool, sub: SubFunction, reply: &[u8]) -> Verdict
             if reply.len() < 2 {
                 return Verdict::Failed(length_error(strict, 2, Maximum::None));
             }
-            if !in_strict(strict, byte_at(reply, 1) == s % 128) {
+            if strict && byte_at(reply, 1) != s % 128 {
                 return Verdict::Failed(Fault::ProtocolDeviation(
                     ProtocolDeviation::InvalidSubFunction,
                 ));
@@ -101,14 +93,14 @@ fn echoing(strict: bool, sub: SubFunction, reply: &[u8]) -> Verdict
 fn positive_checks(strict: bool, asked: Asked, hush: bool, reply: &[u8]) -> Verdict
     ensures { λ r. ⌜ verdictOf r ≡ firstOf (rules.positiveChecks strict (askedOf asked) hush (now (reply .entry))) ⌝ }
 {
-    if !in_strict(strict, byte_at(reply, 0) == asked.sid | POSITIVE_RESPONSE) {
+    if strict && byte_at(reply, 0) != asked.sid | POSITIVE_RESPONSE {
         return Verdict::Failed(Fault::ProtocolDeviation(ProtocolDeviation::InvalidServiceId));
     }
     let sub = asked.sub;
     match echoing(strict, sub, reply) {
         Verdict::Failed(fault) => Verdict::Failed(fault),
         Verdict::Passed => {
-            if !in_strict(strict, !hush) {
+            if strict && hush {
                 return Verdict::Failed(Fault::ProtocolDeviation(
                     ProtocolDeviation::UnexpectedPositiveResponse,
                 ));

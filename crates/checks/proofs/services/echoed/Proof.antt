@@ -1,7 +1,7 @@
 -- `checks::services::echoed` meets its contract.
-use mathlib.Core.Path.{sym, _∙_}
 use borrow.Author.Needs.{needs}
 use borrow.Author.Tests.{le-leb, lt-leb, not-true, not-false}
+use Rattle.exchange.proofs.Verdicts.{strict-fails, strict-passes}
 use Rattle.checks.proofs.services.echoed.Statement.{statement}
 use Rattle.checks.proofs.services.echoed.Tie as tie
 
@@ -11,21 +11,17 @@ length-error-requires c κs = search needs
 returns : tie.Need-returns
 returns c = rw (lt-leb _ _ (c .before .if1 .taken), (c .length-error .ensures))
 
-in-strict-requires : tie.Need-in-strict-requires
-in-strict-requires c κs = search needs
-
 returns-2 : tie.Need-returns-2
 returns-2 c = rw (
   le-leb _ _ (c .before .before .if1 .left),
-  sym (c .before .in-strict .ensures) ∙ not-true _ (c .if2 .taken),
+  strict-fails (c .before .if2 .taken) (not-true _ (c .if3 .taken)),
 )
 
 returns-3 : tie.Need-returns-3
 returns-3 c = rw (
-  le-leb _ _ (c .before .before .if1 .left),
-  sym (c .before .in-strict .ensures) ∙ not-false _ (c .if2 .left),
+  le-leb _ _ (c .before .if1 .left),
+  strict-passes (c .if2 .came) (λ w. not-false _ (w .1 .left)) (λ w. w .left),
 )
 
 pub echoed-spec : {M : Type 1} → statement M
-echoed-spec =
-    tie.close (tie.spec length-error-requires returns in-strict-requires returns-2 returns-3)
+echoed-spec = tie.close (tie.spec length-error-requires returns returns-2 returns-3)

@@ -4,6 +4,8 @@ use mathlib.Core.Bool.{true, false}
 use mathlib.Core.Path.{sym, _∙_}
 use borrow.Author.Needs.{needs}
 use Rattle.rules.specs.Bytes.{value}
+use Rattle.exchange.proofs.Verdicts.{strict-fails, strict-passes}
+use Rattle.checks.proofs.Tests.{less, not-less}
 use Rattle.checks.proofs.Loading.{over, under}
 use Rattle.checks.proofs.services.loaded.Statement.{statement}
 use Rattle.checks.proofs.services.loaded.Tie as tie
@@ -17,30 +19,27 @@ enum-told c = search needs
 enum-known-v : tie.Need-enum-known-v
 enum-known-v c = search needs
 
-in-strict-requires : tie.Need-in-strict-requires
-in-strict-requires c κs = search needs
-
 returns : tie.Need-returns
 returns c =
-    let measured = c .before .before in
-    let x = measured .before .before .args in
-    over (x .strict) (value (x .bytes .now)) (sym (measured .block-length .ensures) ∙ c .enum-told .given .1)
-
-returns-2 : tie.Need-returns-2
-returns-2 c =
-    let fits = c .before .before .before in
-    let measured = fits .before .before in
-    let x = measured .before .before .args in
-    under (x .strict) (value (x .bytes .now)) _ true (sym (measured .block-length .ensures) ∙ fits .v .given .1) (omega arith)
-    (sym (c .before .in-strict .ensures) ∙ c .if1 .taken)
-
-returns-3 : tie.Need-returns-3
-returns-3 c =
     let fits = c .before .before .before in
     let measured = fits .before .before in
     let x = measured .before .before .args in
     under (x .strict) (value (x .bytes .now)) _ false (sym (measured .block-length .ensures) ∙ fits .v .given .1) (omega arith)
-    (sym (c .before .in-strict .ensures) ∙ c .if1 .left)
+    (strict-fails (c .before .if1 .taken) (less 3 (fits .v .given .0 .0) (c .if2 .taken)))
+
+returns-2 : tie.Need-returns-2
+returns-2 c =
+    let measured = c .before .before in
+    let x = measured .before .before .args in
+    over (x .strict) (value (x .bytes .now)) (sym (measured .block-length .ensures) ∙ c .enum-told .given .1)
+
+returns-3 : tie.Need-returns-3
+returns-3 c =
+    let fits = c .before .before in
+    let measured = fits .before .before in
+    let x = measured .before .before .args in
+    under (x .strict) (value (x .bytes .now)) _ true (sym (measured .block-length .ensures) ∙ fits .v .given .1) (omega arith)
+    (strict-passes (c .if1 .came) (λ w. not-less 3 (fits .v .given .0 .0) (w .1 .left)) (λ w. w .left))
 
 pub loaded-spec : {M : Type 1} → statement M
 loaded-spec =
@@ -49,7 +48,6 @@ loaded-spec =
     block-length-requires
     enum-told
     enum-known-v
-    in-strict-requires
     returns
     returns-2
     returns-3)

@@ -1,36 +1,42 @@
 -- `checks::services::request_download_upload` meets its contract.
-use Prim.Native.Nat.{_%_}
+use Prim.Native.Nat.{_+_, _%_}
 use mathlib.Core.Bool.{true}
-use mathlib.Core.Path.{_≡_, sym, _∙_}
+use mathlib.Core.Path.{_≡_}
 use borrow.Author.Needs.{needs}
 use borrow.Author.Tests.{le-leb, lt-leb, not-true, not-false}
-use lib.Dec.{ltb, eqb}
-use lib.ListN.{getD}
+use lib.Dec.{leb, ltb, eqb}
+use lib.ListN.{length, getD}
 use Rattle.rules.specs.After.{lengthBytes}
 use Rattle.rules.specs.InOrder.{inStrict}
+use Rattle.exchange.proofs.Verdicts.{strict-fails, strict-passes}
+use Rattle.checks.proofs.Tests.{less, not-less, zero, not-zero}
 use Rattle.checks.proofs.services.request_download_upload.Statement.{statement}
 use Rattle.checks.proofs.services.request_download_upload.Tie as tie
 
 -- Where the checks before passed, and what is given.
-abbrev one-byte : tie.Else2 → tie.Else1
-one-byte c = c .before .before .before
+abbrev nibble-passed : tie.Joined4 → tie.Joined2
+nibble-passed c = c .before .before
 
-abbrev nibble-passed : tie.Else3 → tie.Else2
-nibble-passed c = c .before .before .before
-
-abbrev start : tie.Else1 → tie.Start
-start c = c .before .before
+abbrev start : tie.Joined2 → tie.Start
+start c = c .before .before .before
 
 -- What the checks that have passed tell, each in the definition's words.
-nibble-right : (c : tie.Else2) → let x = start (one-byte c) .args in inStrict (x .strict)
-    (eqb (getD (x .reply .now) 1 0 % 16) 0) ≡ true
-nibble-right c = rw (← (c .before .before .byte-at .ensures))
-    (sym (c .before .in-strict .ensures) ∙ not-false _ (c .if2 .left))
+nibble-right : (c : tie.Joined2) → let x = start c .args in inStrict (x .strict) (eqb (getD (x .reply .now) 1 0 % 16) 0) ≡ true
+nibble-right c = strict-passes (c .if2 .came) (λ w. rw (← (w .1 .ensures)) (not-false _ (w .2 .left))) (λ w. w .left)
 
-some-bytes : (c : tie.Else3) → let x = start (one-byte (nibble-passed c)) .args in
+some-bytes : (c : tie.Joined4) → let x = start (nibble-passed c) .args in
     inStrict (x .strict) (ltb 0 (lengthBytes (x .reply .now))) ≡ true
-some-bytes c = rw (← (c .before .before .length-bytes .ensures .0))
-    (sym (c .before .in-strict2 .ensures) ∙ not-false _ (c .if3 .left))
+some-bytes c =
+    let n = c .before .length-bytes .result in
+    rw (← (c .before .length-bytes .ensures .0)) (strict-passes (c .if4 .came) (λ w. not-zero n (w .1 .left)) (λ w. w .left))
+
+no-more : (c : tie.Joined7) → let bytes = c .before .before in let x = start (nibble-passed bytes) .args in
+    inStrict (x .strict) (leb (length (x .reply .now)) (bytes .before .length-bytes .result + 2)) ≡ true
+no-more c =
+    let bytes = c .before .before in
+    let x = start (nibble-passed bytes) .args in
+    let n = bytes .before .length-bytes .result in
+    strict-passes (c .if7 .came) (λ w. not-less (length (x .reply .now)) (n + 2) (w .1 .left)) (λ w. w .left)
 
 length-error-requires : tie.Need-length-error-requires
 length-error-requires c κs = search needs
@@ -41,40 +47,38 @@ returns c = rw (lt-leb _ _ (c .before .if1 .taken), (c .length-error .ensures))
 byte-at-requires : tie.Need-byte-at-requires
 byte-at-requires c κs = search needs
 
-in-strict-requires : tie.Need-in-strict-requires
-in-strict-requires c κs = search needs
-
 returns-2 : tie.Need-returns-2
-returns-2 c = rw (
-  le-leb _ _ (c .before .before .before .if1 .left),
-  ← (c .before .before .byte-at .ensures),
-  sym (c .before .in-strict .ensures) ∙ not-true _ (c .if2 .taken),
-)
+returns-2 c =
+    let strict = c .before .before in
+    rw (
+      le-leb _ _ (strict .before .if1 .left),
+      ← (c .before .byte-at .ensures),
+      strict-fails (strict .if2 .taken) (not-true (eqb (c .before .byte-at .result % 16) 0) (c .if3 .taken)),
+    )
 
 length-bytes-requires : tie.Need-length-bytes-requires
 length-bytes-requires c κs = search needs
 
-in-strict-requires-2 : tie.Need-in-strict-requires-2
-in-strict-requires-2 c κs = search needs
-
 returns-3 : tie.Need-returns-3
 returns-3 c =
-    let nibble = c .before .before .before in
+    let strict = c .before in
+    let counted = strict .before in
+    let nibble = counted .before in
     rw (
-      le-leb _ _ (one-byte nibble .if1 .left),
+      le-leb _ _ (nibble .before .if1 .left),
       nibble-right nibble,
-      ← (c .before .before .length-bytes .ensures .0),
-      sym (c .before .in-strict2 .ensures) ∙ not-true _ (c .if3 .taken),
+      ← (counted .length-bytes .ensures .0),
+      strict-fails (strict .if4 .taken) (zero (counted .length-bytes .result) (c .if5 .taken)),
     )
 
-add-if4 : tie.Need-add-if4
-add-if4 c = search needs
+add-if6 : tie.Need-add-if6
+add-if6 c = search needs
 
 add-length-error : tie.Need-add-length-error
 add-length-error c = search needs
 
-add-t19 : tie.Need-add-t19
-add-t19 c = search needs
+add-t21 : tie.Need-add-t21
+add-t21 c = search needs
 
 length-error-requires-2 : tie.Need-length-error-requires-2
 length-error-requires-2 c κs = search needs
@@ -84,41 +88,41 @@ returns-4 c =
     let bytes = c .before .before in
     let nibble = nibble-passed bytes in
     rw (
-      le-leb _ _ (one-byte nibble .if1 .left),
+      le-leb _ _ (nibble .before .if1 .left),
       nibble-right nibble,
       some-bytes bytes,
-      ← (bytes .before .before .length-bytes .ensures .0),
-      lt-leb _ _ (c .before .if4 .taken),
+      ← (bytes .before .length-bytes .ensures .0),
+      lt-leb _ _ (c .before .if6 .taken),
       c .length-error2 .ensures,
     )
 
-add-in-strict : tie.Need-add-in-strict
-add-in-strict c = search needs
-
-in-strict-requires-3 : tie.Need-in-strict-requires-3
-in-strict-requires-3 c κs = search needs
+add-if8 : tie.Need-add-if8
+add-if8 c = search needs
 
 add-length-error-2 : tie.Need-add-length-error-2
 add-length-error-2 c = search needs
 
-add-t23 : tie.Need-add-t23
-add-t23 c = search needs
+add-t29 : tie.Need-add-t29
+add-t29 c = search needs
 
 length-error-requires-3 : tie.Need-length-error-requires-3
 length-error-requires-3 c κs = search needs
 
 returns-5 : tie.Need-returns-5
 returns-5 c =
-    let enough = c .before .before .before in
+    let strict = c .before .before in
+    let enough = strict .before in
     let bytes = enough .before in
     let nibble = nibble-passed bytes in
+    let x = start nibble .args in
+    let n = bytes .before .length-bytes .result in
     rw (
-      le-leb _ _ (one-byte nibble .if1 .left),
+      le-leb _ _ (nibble .before .if1 .left),
       nibble-right nibble,
       some-bytes bytes,
-      ← (bytes .before .before .length-bytes .ensures .0),
-      le-leb _ _ (enough .if4 .left),
-      sym (c .before .before .in-strict3 .ensures) ∙ not-true _ (c .before .if5 .taken),
+      ← (bytes .before .length-bytes .ensures .0),
+      le-leb _ _ (enough .if6 .left),
+      strict-fails (strict .if7 .taken) (less (length (x .reply .now)) (n + 2) (c .before .if8 .taken)),
       c .length-error3 .ensures,
     )
 
@@ -130,17 +134,17 @@ loaded-requires c κs = search needs
 
 returns-6 : tie.Need-returns-6
 returns-6 c =
-    let no-more = c .before .before in
-    let enough = no-more .before .before in
+    let all = c .before .before in
+    let enough = all .before in
     let bytes = enough .before in
     let nibble = nibble-passed bytes in
     rw (
-      le-leb _ _ (one-byte nibble .if1 .left),
+      le-leb _ _ (nibble .before .if1 .left),
       nibble-right nibble,
       some-bytes bytes,
-      ← (bytes .before .before .length-bytes .ensures .0),
-      le-leb _ _ (enough .if4 .left),
-      sym (no-more .before .in-strict3 .ensures) ∙ not-false _ (no-more .if5 .left),
+      ← (bytes .before .length-bytes .ensures .0),
+      le-leb _ _ (enough .if6 .left),
+      no-more all,
       ← (c .before .part .ensures),
     ) (c .loaded .ensures)
 
@@ -151,20 +155,17 @@ request-download-upload-spec =
     length-error-requires
     returns
     byte-at-requires
-    in-strict-requires
     returns-2
     length-bytes-requires
-    in-strict-requires-2
     returns-3
-    add-if4
+    add-if6
     add-length-error
-    add-t19
+    add-t21
     length-error-requires-2
     returns-4
-    add-in-strict
-    in-strict-requires-3
+    add-if8
     add-length-error-2
-    add-t23
+    add-t29
     length-error-requires-3
     returns-5
     part-requires
