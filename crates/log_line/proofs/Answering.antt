@@ -20,11 +20,11 @@ use Rattle.calls.specs.declared.Ask.{Ask}
 use Rattle.calls.specs.declared.Answered.{Answered}
 use Rattle.logs.specs.Layout as layout
 use Rattle.logs.specs.Layout.{said}
-use Rattle.logs.specs.Text.{Wrote, text}
 use Rattle.logs.specs.declared.header.Header as header
-use Rattle.logs.specs.declared.text.Written.{Written}
 use Rattle.logs.proofs.Layouts.{said-once}
-use Rattle.logs.proofs.Lines.{badlog-text}
+use Rattle.text.specs.Written.{Wrote, text}
+use Rattle.text.specs.declared.Written.{Written}
+use Rattle.text.proofs.Lines.{badlog-text}
 use Rattle.log_call.specs.Asking.{chosen, sessionOf, Asks}
 use Rattle.log_line.specs.Answered.{AnsweredIn}
 use Rattle.log_line.specs.declared.LogAnswer.{LogAnswer}

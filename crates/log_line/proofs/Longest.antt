@@ -26,11 +26,11 @@ use Rattle.rules.specs.Settings.{Setting, Lent}
 use Rattle.rules.proofs.Judging.{both, judge-ind, pass-append}
 use Rattle.rules.proofs.Turns.{Through, settle-ind}
 use Rattle.exchange.proofs.Entries.{all-sound}
-use Rattle.logs.specs.Text.{Wrote, shown}
-use Rattle.logs.specs.declared.text.Written.{Written}
-use Rattle.logs.specs.declared.text.Written.the-variants.{Line}
-use Rattle.logs.proofs.Lines.{line-text, longest}
-use Rattle.logs.proofs.Numerals.{shown-fits}
+use Rattle.text.specs.Written.{Wrote, shown}
+use Rattle.text.specs.declared.Written.{Written}
+use Rattle.text.specs.declared.Written.the-variants.{Line}
+use Rattle.text.proofs.Lines.{line-text, longest}
+use Rattle.text.proofs.Numerals.{shown-fits}
 use Rattle.log_line.proofs.Answering.{line-bad, line-sound}
 
 -- 32 bits, and the latest deadline.

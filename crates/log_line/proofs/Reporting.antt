@@ -9,9 +9,9 @@ use Rattle.exchange.specs.declared.error.ProtocolDeviation.{ProtocolDeviation}
 use Rattle.exchange.specs.declared.error.ProtocolDeviation.the-variants as protocol
 use Rattle.exchange.specs.declared.types.Outcome.{Outcome}
 use Rattle.exchange.specs.declared.types.Answer.{Answer}
-use Rattle.logs.specs.Text.{Wrote, text}
-use Rattle.logs.specs.declared.text.Written.{Written}
-use Rattle.logs.proofs.Lines.{line-text}
+use Rattle.text.specs.Written.{Wrote, text}
+use Rattle.text.specs.declared.Written.{Written}
+use Rattle.text.proofs.Lines.{line-text}
 
 -- "deviation number (2) and reply"
 pub deviates : (d : ProtocolDeviation) (reply : List ℕ) → (word (fault (deviationOf d)) ≡ "deviation") × (detail (fault (deviationOf d)) reply ≡ deviationNumber d ∷ reply)

@@ -3,12 +3,12 @@ use exchange::error::Fault;
 use exchange::error::deviation_number;
 use exchange::types::Answer;
 use exchange::types::Outcome;
-use logs::text::Written;
-use logs::text::put_line;
+use text::Written;
+use text::put_line;
 use wire::part;
 ghost use Rattle.rules.specs.Lines as lines;
 ghost use Rattle.exchange.specs.Meaning.{answerOf};
-ghost use Rattle.logs.specs.Text.{Wrote};
+ghost use Rattle.text.specs.Written.{Wrote};
 
 // "outcome, finishing time, events read, notices, detail"; the answer's places are parts of the lent reply bytes.
 pub fn put_answer(line: &mut [u8], answer: Answer, replies: &[u8]) -> Written

@@ -10,10 +10,10 @@ use logs::layout::data_of;
 use logs::layout::events_of;
 use logs::layout::replies_of;
 use logs::layout::size_of;
-use logs::text::Written;
-use logs::text::put_line;
+use text::Written;
+use text::put_line;
 ghost use Rattle.rules.specs.Logs.{lineOf};
-ghost use Rattle.logs.specs.Text.{Wrote};
+ghost use Rattle.text.specs.Written.{Wrote};
 ghost use Rattle.log_line.specs.Answered.{AnsweredIn};
 
 pub mod answers;

@@ -1,6 +1,3 @@
 -- The proofs of the functions, and the laws that they cite.
-pub mod Writing
-pub mod Numerals
-pub mod Lines
 pub mod Layouts
 pub mod Walking

@@ -2,5 +2,4 @@
 pub mod header;
 pub mod layout;
 pub mod reader;
-pub mod text;
 pub mod writer;

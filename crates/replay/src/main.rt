@@ -4,8 +4,8 @@ use blocks::Cut;
 use faults::Found;
 use lengths::Number;
 use libc::STDOUT_FILENO;
-use logs::text::Written;
-use logs::text::put_line;
+use text::Written;
+use text::put_line;
 use wire::part;
 
 // What the cases of a list are.

@@ -6,10 +6,10 @@ use exchange::types::RequestTimeout;
 use exchange::types::Timing;
 use libc::STDOUT_FILENO;
 use log_line::answers::put_answer;
-use logs::text::LONGEST;
-use logs::text::Written;
 use requests::Call;
 use requests::Data;
+use text::LONGEST;
+use text::Written;
 use uds::UDSClient;
 
 fn say(text: &[u8]) {

@@ -1,8 +1,8 @@
 // Reads one log from standard input and prints its line. A read or a write that fails is the launcher's, `udslog`.
 use libc::STDIN_FILENO;
 use libc::STDOUT_FILENO;
-use logs::text::LONGEST;
-use logs::text::Written;
+use text::LONGEST;
+use text::Written;
 use wire::part;
 ghost use Prim.Native.Nat.{_≤_};
 ghost use mathlib.Core.Path.{_≡_};

@@ -4,10 +4,10 @@ use native.Mathlib.Omega.{arith}
 use mathlib.Core.List.{List, [], _∷_}
 use mathlib.Core.Path.{_≡_}
 use lib.ListN.{getD, take}
-use Rattle.logs.specs.declared.text.Written.{Written}
-use Rattle.logs.specs.declared.text.Written.the-variants.{Line, NoRoom}
+use Rattle.text.specs.declared.Written.{Written}
+use Rattle.text.specs.declared.Written.the-variants.{Line, NoRoom}
 use Rattle.log_line.proofs.Longest.{always-room, stands}
-use Rattle.logs.specs.Text.{Wrote}
+use Rattle.text.specs.Written.{Wrote}
 use Rattle.rules.specs.Logs.{lineOf}
 use borrow.Author.Needs.{needs}
 use Rattle.udslog.proofs.line_of.Statement.{statement}

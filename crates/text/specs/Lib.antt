@@ -1,0 +1,2 @@
+-- What the contracts of `text` cite besides `rules`.
+pub mod Written

@@ -1,0 +1,44 @@
+-- Text in a lent buffer.
+use Prim.Native.Nat.{ℕ, zero, suc, _+_, _*_}
+use mathlib.Core.Bool.{cond}
+use mathlib.Core.List.{List, [], _∷_, _++_}
+use mathlib.Core.Path.{_≡_}
+use lib.Dec.{leb}
+use lib.ListN.{length, take, drop}
+use Rattle.rules.specs.Lines.{decimal, hexOrDash, spaced}
+use Rattle.text.specs.declared.Written.{Written}
+use Rattle.text.specs.declared.Written.the-variants.{Line, NoRoom}
+
+-- The bytes bs put into l from index at on.
+unfoldable pub put : List ℕ → ℕ → List ℕ → List ℕ
+put l at bs = take at l ++ bs ++ drop (at + length bs) l
+
+-- A writer's answer is where the next one goes on.
+pub record Put (before : List ℕ) (at : ℕ) (bs after : List ℕ) (r : ℕ) : Type 0 where
+  pub next : r ≡ at + length bs
+  pub line : after ≡ put before at bs
+
+-- "outcome, finishing time, events read, notices, detail" and a newline; the detail in bytes.
+unfoldable pub text : List ℕ → ℕ → ℕ → ℕ → List ℕ → List ℕ
+text word time events notices detail =
+    word ++
+    spaced (decimal time) ++
+    spaced (decimal events) ++
+    spaced (decimal notices) ++
+    spaced (hexOrDash detail) ++
+    (10 ∷ [])
+
+-- How many characters so many bytes of detail take: a dash, or two each.
+abbrev pub shown : ℕ → ℕ
+shown zero = 1
+shown (suc n) = suc n * 2
+
+-- The text's length, by the lengths of its parts; 5 are the spaces and the newline.
+abbrev pub room : ℕ → ℕ → ℕ → ℕ → ℕ → ℕ
+room word time events notices detail =
+    word + (length (decimal time) + length (decimal events) + length (decimal notices) + 5) + shown detail
+
+-- The text stands at the buffer's front and the rest keeps its bytes; where there is no room, all of it does.
+pub record Wrote (bs before : List ℕ) (r : Written) (after : List ℕ) : Type 0 where
+  pub answer : r ≡ cond (leb (length bs) (length before)) (Line (length bs)) NoRoom
+  pub line : after ≡ cond (leb (length bs) (length before)) (bs ++ drop (length bs) before) before

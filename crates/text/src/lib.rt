@@ -1,0 +1,162 @@
+// The line that is printed, written into a lent buffer: "outcome, finishing time, events read, notices, detail" and a newline.
+ghost use mathlib.Core.Path.{_≡_};
+ghost use mathlib.Core.List.{[], _∷_, _++_};
+ghost use Prim.Native.Nat.{_+_, _<_, _≤_};
+ghost use lib.Dec.{leb};
+ghost use lib.ListN.{length};
+ghost use Rattle.rules.specs.Lines.{digit, decimal, hex, hexOrDash, spaced};
+ghost use Rattle.text.specs.Written.{Put, Wrote, text, shown, room};
+
+// A buffer of so many bytes has room for every line of document 01. The longest is a deviation's: the word's 9 letters, 8,192 digits for its number and
+// a reply of 4,095 bytes, 10 digits of time (2 · 4,294,967,295 at most), 3 digits each of events and notices, four spaces and the newline.
+pub const LONGEST: usize = 8222;
+
+// How long the line is that stands at the buffer's front; or the buffer has no room for it, and is left as it was.
+pub enum Written {
+    Line(usize),
+    NoRoom,
+}
+
+fn put_byte(line: &mut [u8], at: usize, byte: u8) -> usize
+    requires { ⌜ at < length (now line) ⌝ }
+    ensures { λ r. ⌜ Put (now (line .entry)) at (byte ∷ []) (now (line .exit)) r ⌝ }
+{
+    line[at] = byte;
+    at + 1
+}
+
+fn put_word(line: &mut [u8], at: usize, word: &[u8]) -> usize
+    requires { ⌜ at + length (now word) ≤ length (now line) ⌝ }
+    ensures { λ r. ⌜ Put (now (line .entry)) at (now (word .entry)) (now (line .exit)) r ⌝ }
+{
+    let mut n = at;
+    let mut i = 0;
+    while i < word.len() {
+        n = put_byte(line, n, word[i]);
+        i += 1;
+    }
+    n
+}
+
+fn digit(d: u8) -> u8
+    requires { ⌜ d < 16 ⌝ }
+    ensures { λ r. ⌜ r ≡ digit d ⌝ }
+{
+    if d < 10 { d + 48 } else { d + 87 }
+}
+
+fn put_hex(line: &mut [u8], at: usize, bytes: &[u8]) -> usize
+    requires { ⌜ at + length (hex (now bytes)) ≤ length (now line) ⌝ }
+    ensures { λ r. ⌜ Put (now (line .entry)) at (hex (now (bytes .entry))) (now (line .exit)) r ⌝ }
+{
+    let mut n = at;
+    let mut i = 0;
+    while i < bytes.len() {
+        let b = bytes[i];
+        n = put_byte(line, n, digit(b / 16));
+        n = put_byte(line, n, digit(b % 16));
+        i += 1;
+    }
+    n
+}
+
+fn decimal_length(value: u64) -> usize
+    ensures { λ r. ⌜ (r ≡ length (decimal value)) × (r ≤ 20) ⌝ }
+{
+    if value < 10 {
+        1
+    } else {
+        decimal_length(value / 10) + 1
+    }
+}
+
+fn put_decimal(line: &mut [u8], at: usize, value: u64) -> usize
+    requires { ⌜ at + length (decimal value) ≤ length (now line) ⌝ }
+    ensures { λ r. ⌜ Put (now (line .entry)) at (decimal value) (now (line .exit)) r ⌝ }
+{
+    if value < 10 {
+        return put_byte(line, at, digit(value as u8));
+    }
+    let n = put_decimal(line, at, value / 10);
+    put_byte(line, n, digit((value % 10) as u8))
+}
+
+fn put_number(line: &mut [u8], at: usize, value: u64) -> usize
+    requires { ⌜ at + length (spaced (decimal value)) ≤ length (now line) ⌝ }
+    ensures { λ r. ⌜ Put (now (line .entry)) at (spaced (decimal value)) (now (line .exit)) r ⌝ }
+{
+    let n = put_byte(line, at, b' ');
+    put_decimal(line, n, value)
+}
+
+// The detail is `head` and `bytes`: a number or code, and the bytes of a reply.
+fn put_detail(line: &mut [u8], at: usize, head: &[u8], bytes: &[u8]) -> usize
+    requires { ⌜ at + (1 + shown (length (now head) + length (now bytes))) ≤ length (now line) ⌝ }
+    ensures { λ r. ⌜ Put (now (line .entry)) at (spaced (hexOrDash (now (head .entry) ++ now (bytes .entry)))) (now (line .exit)) r ⌝ }
+{
+    let n = put_byte(line, at, b' ');
+    if head.len() + bytes.len() == 0 {
+        return put_byte(line, n, b'-');
+    }
+    let m = put_hex(line, n, head);
+    put_hex(line, m, bytes)
+}
+
+fn write(
+    line: &mut [u8],
+    word: &[u8],
+    time: u64,
+    events: u64,
+    notices: u64,
+    head: &[u8],
+    bytes: &[u8],
+) -> usize
+    requires { ⌜ room (length (now word)) time events notices (length (now head) + length (now bytes)) ≤ length (now line) ⌝ }
+    ensures { λ r. ⌜ Put (now (line .entry)) 0 (text (now (word .entry)) time events notices (now (head .entry) ++ now (bytes .entry))) (now (line .exit)) r ⌝ }
+{
+    let a = put_word(line, 0, word);
+    let b = put_number(line, a, time);
+    let c = put_number(line, b, events);
+    let d = put_number(line, c, notices);
+    let e = put_detail(line, d, head, bytes);
+    put_byte(line, e, b'\n')
+}
+
+// Whether a line of these parts fits; the lengths may be any, and their sum may pass 64 bits.
+fn fits(line: usize, word: usize, numbers: usize, head: usize, bytes: usize) -> bool
+    ensures { λ r. ⌜ r ≡ leb (word + numbers + shown (head + bytes)) line ⌝ }
+{
+    if word > line {
+        return false;
+    }
+    if numbers > line - word {
+        return false;
+    }
+    let left = line - word - numbers;
+    if head > left / 2 {
+        return false;
+    }
+    if bytes > left / 2 - head {
+        return false;
+    }
+    left > 0
+}
+
+// Writes the line at the buffer's front, or nothing where there is no room for it. The 5 are its spaces and the newline.
+pub fn put_line(
+    line: &mut [u8],
+    word: &[u8],
+    time: u64,
+    events: u64,
+    notices: u64,
+    head: &[u8],
+    bytes: &[u8],
+) -> Written
+    ensures { λ r. ⌜ Wrote (text (now (word .entry)) time events notices (now (head .entry) ++ now (bytes .entry))) (now (line .entry)) r (now (line .exit)) ⌝ }
+{
+    let numbers = decimal_length(time) + decimal_length(events) + decimal_length(notices) + 5;
+    if !fits(line.len(), word.len(), numbers, head.len(), bytes.len()) {
+        return Written::NoRoom;
+    }
+    Written::Line(write(line, word, time, events, notices, head, bytes))
+}
