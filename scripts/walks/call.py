@@ -1,16 +1,16 @@
 #!/usr/bin/env -S python3 -B
-# Writes the proof of `calls::call`, a walk of its MIR, where the code is
-#     let a = run(*session, p1, .., pk); let d = handed_out(a, pk); *session = a.timing; Handed { answer: a, bytes: d }
+# Writes the proof of `sessions::call`, a walk of its MIR, where the code is
+#     let a = calls::run(*session, p1, .., pk); let d = handed_out(a, pk); *session = a.timing; Handed { answer: a, bytes: d }
 # and `run` takes the session by value and then the same parameters. The names stand in parameters.py. To write it anew:
-#     scripts/walks/call.py > crates/calls/proofs/call/Proof.antt && rt fmt
+#     scripts/walks/call.py > crates/sessions/proofs/call/Proof.antt && rt fmt
 from frame import Callee, begins, written
 from kinds import LENT, MORE, Parameter, Parameters, listed, nested, path
 from parameters import AFTERWARDS, ANSWER, HANDED, OTHERS, SESSION
 from script import Script
 
 HEAD = '''
--- Generated: scripts/walks/call.py > crates/calls/proofs/call/Proof.antt && rt fmt
--- `calls::call` meets its contract: a walk of its MIR. The session's borrow is opened and copied, the other parameters go to `run` as they are, the timing of the answer is stored behind the borrow, and it is closed.
+-- Generated: scripts/walks/call.py > crates/sessions/proofs/call/Proof.antt && rt fmt
+-- `sessions::call` meets its contract: a walk of its MIR. The session's borrow is opened and copied, the other parameters go to `run` as they are, the timing of the answer is stored behind the borrow, and it is closed.
 -- At exit nothing is had of the numbers, the structs and the shared slices (`stay-dropped`), and of request what `run` says of its last list (`gave-slice`).
 -- Assumes nothing.
 '''
@@ -97,7 +97,7 @@ LOCALS = ['result', *(p.n for p in parameters), 'answer', 'bytes', 'copied', 'po
 before = names.index(request) + 1
 last = path('zs', before)
 ghost = '(((κ, κs), (q, qs), tt, (x, rest), (vptr b o ∷ [], vals)), tt)'
-run, out = Callee('run', 'run'), Callee('handed_out', 'out')
+run, out = Callee('run', 'run', 'calls'), Callee('handed_out', 'out')
 tokens = [f'‵ (flft {k} {s})' for k, s in zip(κs[:-1], qs[:-1])]  # but for the replies'
 BEGUN = {
     'obs': f'‵ (fobs γ ({row} .coded .code session))',

@@ -72,20 +72,20 @@ def uses(text):
 
 
 class Callee:
-    """A function of the crate that is called. The proof calls it `name`, its contract `name-contract`, its key `#name`, and that it meets its contract `known-name`."""
+    """A function that is called, of this crate or of another. The proof calls it `name`, its contract `name-contract`, its key `#name`, and that it meets its contract `known-name`."""
 
-    def __init__(self, function, name):
-        self.function, self.name, self.contract = function, name, f'{name}-contract'
+    def __init__(self, function, name, home=CRATE):
+        self.function, self.name, self.contract, self.home = function, name, f'{name}-contract', home
 
     def uses(self):
-        f = f'use {PROOFS}.{self.function}'
+        f = f'use {PROOFS if self.home == CRATE else f"Rattle.{self.home}.proofs"}.{self.function}'
         return [f'{f} as {self.name}', f'{f}.Symbol as {self.name}-def', f'{f}.Symbol.{{name as #{self.name}}}', f'{f}.Met as {self.name}-thm']
 
     def known(self, calls):
         return f'Triple 𝓤 ({calls} #{self.name}) ({self.contract} 𝓤 H A at-mem exec)'
 
     def say(self, text):
-        return fill(text, {'contract': self.contract, 'name': self.name, 'key': f'{CRATE}·{self.function}'.replace('_', '-')})
+        return fill(text, {'contract': self.contract, 'name': self.name, 'key': f'{self.home}·{self.function}'.replace('_', '-')})
 
 
 CONTRACT = '''

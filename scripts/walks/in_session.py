@@ -1,9 +1,9 @@
 #!/usr/bin/env -S python3 -B
-# Writes the proof of `calls::in_session` or of `calls::data_in_session`, a walk of its MIR, where the code is
+# Writes the proof of `sessions::in_session` or of `sessions::data_in_session`, a walk of its MIR, where the code is
 #     let handed = call(&mut session, p1, .., pk); handed.answer
 # or, of the latter, handed.bytes, with a parameter `mut session`. The names stand in parameters.py. To write them anew:
-#     scripts/walks/in_session.py in_session > crates/calls/proofs/in_session/Proof.antt && rt fmt
-#     scripts/walks/in_session.py data_in_session > crates/calls/proofs/data_in_session/Proof.antt && rt fmt
+#     scripts/walks/in_session.py in_session > crates/sessions/proofs/in_session/Proof.antt && rt fmt
+#     scripts/walks/in_session.py data_in_session > crates/sessions/proofs/data_in_session/Proof.antt && rt fmt
 import sys
 
 from frame import Callee, begins, written
@@ -12,8 +12,8 @@ from parameters import AFTERWARDS, ANSWER, HANDED, HANDED_FIELDS, HANDS_OUT, OTH
 from script import Script
 
 HEAD = '''
--- Generated: scripts/walks/in_session.py ‹function› > crates/calls/proofs/‹function›/Proof.antt && rt fmt
--- `calls::‹function›` meets its contract: a walk of its MIR. The session is copied into a local, which is lent to `call` for a lifetime that is made for it (`lends-ref`) and comes back once that is over (`ref-back`). Of what `call` returns the ‹field› is read.
+-- Generated: scripts/walks/in_session.py ‹function› > crates/sessions/proofs/‹function›/Proof.antt && rt fmt
+-- `sessions::‹function›` meets its contract: a walk of its MIR. The session is copied into a local, which is lent to `call` for a lifetime that is made for it (`lends-ref`) and comes back once that is over (`ref-back`). Of what `call` returns the ‹field› is read.
 -- At exit nothing is had of the numbers, the structs and the shared slices (`stay-dropped`), and of request what `call` says of its last list (`gave-slice`).
 -- Assumes nothing.
 '''

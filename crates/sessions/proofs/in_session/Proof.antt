@@ -1,5 +1,5 @@
--- Generated: scripts/walks/in_session.py in_session > crates/calls/proofs/in_session/Proof.antt && rt fmt
--- `calls::in_session` meets its contract: a walk of its MIR. The session is copied into a local, which is lent to `call` for a lifetime that is made for it (`lends-ref`) and comes back once that is over (`ref-back`). Of what `call` returns the answer is read.
+-- Generated: scripts/walks/in_session.py in_session > crates/sessions/proofs/in_session/Proof.antt && rt fmt
+-- `sessions::in_session` meets its contract: a walk of its MIR. The session is copied into a local, which is lent to `call` for a lifetime that is made for it (`lends-ref`) and comes back once that is over (`ref-back`). Of what `call` returns the answer is read.
 -- At exit nothing is had of the numbers, the structs and the shared slices (`stay-dropped`), and of request what `call` says of its last list (`gave-slice`).
 -- Assumes nothing.
 use mathlib.Core.Path.{_≡_, refl, sym, ap, subst}
@@ -43,29 +43,30 @@ use denote.Triple.Table.{entered, cited}
 use denote.Triple.Walked.{says, Stays, gave-slice, stay-dropped, walkOf, AllGo, goes-gave-slice, goes-dropped, Walks, ends-at, walked, walk-meets}
 use denote.Exit.{yes}
 use Rattle.requests.specs.Meaning.{callOf}
-use Rattle.calls.specs.Meaning.{settingOf, lentOf, handedOf, Called}
-use Rattle.calls.proofs.Walking.{type-of, begun, begins, leaves, reborrows, copies-field}
+use Rattle.calls.specs.Meaning.{settingOf, lentOf, Called}
+use Rattle.sessions.specs.Meaning.{handedOf}
+use Rattle.sessions.proofs.Walking.{type-of, begun, begins, leaves, reborrows, copies-field}
 use denote.Struct.Laws as LL
 use Rattle.exchange.specs.declared.types.Timing.{Timing}
 use Rattle.exchange.proofs.types.Timing as TimingT
 use Rattle.exchange.proofs.types.Timing.Laws as TimingL
 use Rattle.calls.specs.declared.Answered.{Answered}
 use Rattle.calls.proofs.Answered as AnsweredT
 use Rattle.calls.proofs.Answered.Laws as AnsweredL
-use Rattle.calls.specs.declared.Handed.{Handed}
-use Rattle.calls.proofs.Handed as HandedT
-use Rattle.calls.proofs.Handed.Laws as HandedL
+use Rattle.sessions.specs.declared.Handed.{Handed}
+use Rattle.sessions.proofs.Handed as HandedT
+use Rattle.sessions.proofs.Handed.Laws as HandedL
 use Rattle.calls.specs.declared.Ask.{Ask}
 use Rattle.calls.proofs.Ask as AskT
 use Rattle.calls.proofs.Ask.Laws as AskL
-use Rattle.calls.proofs.call as call
-use Rattle.calls.proofs.call.Symbol as call-def
-use Rattle.calls.proofs.call.Symbol.{name as #call}
-use Rattle.calls.proofs.call.Met as call-thm
-use Rattle.calls.proofs.in_session.Key.{name as #self}
-use Rattle.calls.proofs.in_session as self
-use Rattle.calls.proofs.in_session.Statement as stated
-use Rattle.calls.proofs.in_session.Code as code
+use Rattle.sessions.proofs.call as call
+use Rattle.sessions.proofs.call.Symbol as call-def
+use Rattle.sessions.proofs.call.Symbol.{name as #call}
+use Rattle.sessions.proofs.call.Met as call-thm
+use Rattle.sessions.proofs.in_session.Key.{name as #self}
+use Rattle.sessions.proofs.in_session as self
+use Rattle.sessions.proofs.in_session.Statement as stated
+use Rattle.sessions.proofs.in_session.Code as code
 
 -- the locals: their types, by number, and where they lie. The types stay shut but where one is seen
 ty : ℕ → Ty
@@ -372,4 +373,4 @@ in-session-spec 𝓤 H 𝓜 𝓖 𝓡 =
     (tables 𝓤 H 𝓜 𝓡 code.env .C) (tables 𝓤 H 𝓜 𝓡 code.env .Λ) #self code.function (code.unfolded 𝓤 H 𝓜 𝓡)
     (meets 𝓤 H (𝓖 .A) (givenOf 𝓤 H 𝓜 𝓖) (𝓜 .mem) (𝓡 .run) (tablesOf 𝓤 H 𝓜 (tables 𝓤 H 𝓜 𝓡 code.env))
     (cited 𝓤 H (call-contract 𝓤 H (𝓖 .A) (𝓜 .mem) (𝓡 .run)) 𝓜 𝓡 code.env #call call-def.routine
-    code.calls-calls·call (call-thm.met 𝓤 H 𝓜 𝓖 𝓡)))
+    code.calls-sessions·call (call-thm.met 𝓤 H 𝓜 𝓖 𝓡)))

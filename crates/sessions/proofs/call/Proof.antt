@@ -1,5 +1,5 @@
--- Generated: scripts/walks/call.py > crates/calls/proofs/call/Proof.antt && rt fmt
--- `calls::call` meets its contract: a walk of its MIR. The session's borrow is opened and copied, the other parameters go to `run` as they are, the timing of the answer is stored behind the borrow, and it is closed.
+-- Generated: scripts/walks/call.py > crates/sessions/proofs/call/Proof.antt && rt fmt
+-- `sessions::call` meets its contract: a walk of its MIR. The session's borrow is opened and copied, the other parameters go to `run` as they are, the timing of the answer is stored behind the borrow, and it is closed.
 -- At exit nothing is had of the numbers, the structs and the shared slices (`stay-dropped`), and of request what `run` says of its last list (`gave-slice`).
 -- Assumes nothing.
 use mathlib.Core.Path.{_≡_, refl, ap}
@@ -43,33 +43,34 @@ use denote.Triple.Table.{entered, cited}
 use denote.Triple.Walked.{says, Stays, stay-ref, gave-slice, stay-dropped, walkOf, AllGo, goes-ref, goes-gave-slice, goes-dropped, Walks, ends-at, walked, walk-meets}
 use denote.Exit.{yes}
 use Rattle.requests.specs.Meaning.{callOf}
-use Rattle.calls.specs.Meaning.{settingOf, lentOf, handedOf, Called}
-use Rattle.calls.proofs.Walking.{type-of, begun, begins, leaves, reborrows, copies-field}
+use Rattle.calls.specs.Meaning.{settingOf, lentOf, Called}
+use Rattle.sessions.specs.Meaning.{handedOf}
+use Rattle.sessions.proofs.Walking.{type-of, begun, begins, leaves, reborrows, copies-field}
 use denote.Struct.Laws as LL
 use Rattle.exchange.specs.declared.types.Timing.{Timing}
 use Rattle.exchange.proofs.types.Timing as TimingT
 use Rattle.exchange.proofs.types.Timing.Laws as TimingL
 use Rattle.calls.specs.declared.Answered.{Answered}
 use Rattle.calls.proofs.Answered as AnsweredT
 use Rattle.calls.proofs.Answered.Laws as AnsweredL
-use Rattle.calls.specs.declared.Handed.{Handed}
-use Rattle.calls.proofs.Handed as HandedT
-use Rattle.calls.proofs.Handed.Laws as HandedL
+use Rattle.sessions.specs.declared.Handed.{Handed}
+use Rattle.sessions.proofs.Handed as HandedT
+use Rattle.sessions.proofs.Handed.Laws as HandedL
 use Rattle.calls.specs.declared.Ask.{Ask}
 use Rattle.calls.proofs.Ask as AskT
 use Rattle.calls.proofs.Ask.Laws as AskL
 use Rattle.calls.proofs.run as run
 use Rattle.calls.proofs.run.Symbol as run-def
 use Rattle.calls.proofs.run.Symbol.{name as #run}
 use Rattle.calls.proofs.run.Met as run-thm
-use Rattle.calls.proofs.handed_out as out
-use Rattle.calls.proofs.handed_out.Symbol as out-def
-use Rattle.calls.proofs.handed_out.Symbol.{name as #out}
-use Rattle.calls.proofs.handed_out.Met as out-thm
-use Rattle.calls.proofs.call.Key.{name as #self}
-use Rattle.calls.proofs.call as self
-use Rattle.calls.proofs.call.Statement as stated
-use Rattle.calls.proofs.call.Code as code
+use Rattle.sessions.proofs.handed_out as out
+use Rattle.sessions.proofs.handed_out.Symbol as out-def
+use Rattle.sessions.proofs.handed_out.Symbol.{name as #out}
+use Rattle.sessions.proofs.handed_out.Met as out-thm
+use Rattle.sessions.proofs.call.Key.{name as #self}
+use Rattle.sessions.proofs.call as self
+use Rattle.sessions.proofs.call.Statement as stated
+use Rattle.sessions.proofs.call.Code as code
 
 -- the locals: their types, by number, and where they lie. The types stay shut but where one is seen
 ty : ℕ → Ty
@@ -443,4 +444,4 @@ call-spec 𝓤 H 𝓜 𝓖 𝓡 =
     (cited 𝓤 H (run-contract 𝓤 H (𝓖 .A) (𝓜 .mem) (𝓡 .run)) 𝓜 𝓡 code.env #run run-def.routine
     code.calls-calls·run (run-thm.met 𝓤 H 𝓜 𝓖 𝓡))
     (cited 𝓤 H (out-contract 𝓤 H (𝓖 .A) (𝓜 .mem) (𝓡 .run)) 𝓜 𝓡 code.env #out out-def.routine
-    code.calls-calls·handed-out (out-thm.met 𝓤 H 𝓜 𝓖 𝓡)))
+    code.calls-sessions·handed-out (out-thm.met 𝓤 H 𝓜 𝓖 𝓡)))
