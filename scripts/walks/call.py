@@ -1,16 +1,16 @@
 #!/usr/bin/env -S python3 -B
-# Writes the proof of `calls::call`, a walk of its MIR, where the code is
-#     let a = run(*session, p1, .., pk); let d = handed_out(a, pk); *session = a.timing; Handed { answer: a, bytes: d }
+# Writes the proof of `sessions::call`, a walk of its MIR, where the code is
+#     let a = calls::run(*session, p1, .., pk); let d = handed_out(a, pk); *session = a.timing; Handed { answer: a, bytes: d }
 # and `run` takes the session by value and then the same parameters. The names stand in parameters.py. To write it anew:
-#     scripts/walks/call.py > crates/calls/proofs/call/Proof.antt && rt fmt
-from frame import Callee, written
+#     scripts/walks/call.py > crates/sessions/proofs/call/Proof.antt && rt fmt
+from frame import Callee, begins, written
 from kinds import LENT, MORE, Parameter, Parameters, listed, nested, path
 from parameters import AFTERWARDS, ANSWER, HANDED, OTHERS, SESSION
 from script import Script
 
 HEAD = '''
--- Generated: scripts/walks/call.py > crates/calls/proofs/call/Proof.antt && rt fmt
--- `calls::call` meets its contract: a walk of its MIR. The session's borrow is opened and copied, the other parameters go to `run` as they are, the timing of the answer is stored behind the borrow, and it is closed.
+-- Generated: scripts/walks/call.py > crates/sessions/proofs/call/Proof.antt && rt fmt
+-- `sessions::call` meets its contract: a walk of its MIR. The session's borrow is opened and copied, the other parameters go to `run` as they are, the timing of the answer is stored behind the borrow, and it is closed.
 -- At exit nothing is had of the numbers, the structs and the shared slices (`stay-dropped`), and of request what `run` says of its last list (`gave-slice`).
 -- Assumes nothing.
 '''
@@ -87,26 +87,25 @@ BODY = '''
   exits r d v zs e l e₂ =
       qed W (‹at-exit›) ∵
 ‹exits›
-
-  module _ (C : Calls 𝓤 H) (Λ : Loops 𝓤 H) (fm : FmC 𝓤 H (W .laws) C)
-      ‹triples› where
-    walk : ‹relations›
-        → ent 𝓤 (onEntry 𝓤 H A self.signature (κ, κs) (q, qs) (x, rest) (vptr b o ∷ [], vals))
-        (WpFn 𝓤 H C Λ code.function (‹arguments›) Post)
-    walk ‹related› =
-        qed W ((‵ (flft κ q) ⊛ raw (alive 𝓤 H A run.signature κs qs)) ∷ ‵ (fsep (MutRef (named 0) κ ‹S›T.the-row .own x (vptr b o ∷ [])) Tail) ∷ []) ∵
-‹walk›
 '''
 
 parameters = Parameters(Parameter('session', LENT, SESSION.T, SESSION.home), OTHERS)
 request, replies, names, κs, qs = parameters.request, parameters.replies, parameters.names, parameters.κs, parameters.qs
 S, R, Hd, (field, timing), κ, q = SESSION.T, ANSWER.T, HANDED.T, AFTERWARDS, κs[-1], qs[-1]
 session, row, lowered, answer_row = SESSION.say('argument'), SESSION.say('row'), ANSWER.say('argument'), ANSWER.say('row')
+LOCALS = ['result', *(p.n for p in parameters), 'answer', 'bytes', 'copied', 'pointer', 'slice']
 before = names.index(request) + 1
 last = path('zs', before)
 ghost = '(((κ, κs), (q, qs), tt, (x, rest), (vptr b o ∷ [], vals)), tt)'
-run, out = Callee('run', 'run'), Callee('handed_out', 'out')
+run, out = Callee('run', 'run', 'calls'), Callee('handed_out', 'out')
 tokens = [f'‵ (flft {k} {s})' for k, s in zip(κs[:-1], qs[:-1])]  # but for the replies'
+BEGUN = {
+    'obs': f'‵ (fobs γ ({row} .coded .code session))',
+    'the borrow': f'‵ (fbor κ (Body (mem {row}) b o γ))',
+    'what the others own': '‵ Tail',
+    'its token': '‵ (flft κ q)',
+    'the tokens': 'raw (alive 𝓤 H A run.signature κs qs)',
+}
 AT_EXIT = {
     'obs': f'‵ (fobs γ ({row} .coded .code (r .{timing})))',
     'the borrow': f'‵ (fbor κ (Body (mem {row}) b o γ))',
@@ -174,7 +173,12 @@ def walk():
     s.do('fsplit !', ['owned'], ['session', 'what the others own'])
     s.do('fsplit3 !', ['session'], ['same', 'obs', 'the borrow'])
     s.drop('same')
-    s.enter(parameters, ['answer', 'bytes', 'copied', 'pointer', 'slice'])
+    s.move(*BEGUN)
+    return s.text(begins(parameters, LOCALS), 8)
+
+
+def body():
+    s = Script(*BEGUN, locals=LOCALS)
     s.say('the borrow is opened, and the session copied')
     s.do(f'opens ! tt {row} {{h = session}} b o (λ vs.', ['obs', 'the borrow', 'its token'], ['lent', 'owned', 'the open borrow', 'obs', 'auth'])
     s.do(f'spelt ! {row} (Is {row}) (shows 𝓤 H A {row}){MORE}(LL.vals {S}T.the-type {S}L.the-laws) (LL.tells {S}T.the-type {S}L.the-laws) fullShare session vs b o')
@@ -194,7 +198,7 @@ def walk():
     s.peek('the answer', answer_row, 'r', 'w ∷ []', 'is')
     s.say()
     s.do(f'land ! (from ! (stop !)) {s.room("answer", ANSWER.say("typed", fact="is"))}')
-    s.do(f'rewrite ! {s.at("_answer")} (λ (u : Val). ‵ (fat fullShare {R}L.mir {s.place("answer")} 0 u)) (ap only ({R}L.lowers .val-is r _ is)) refl')
+    s.respell('answer', f'({R}L.lowers .val-is r _ is)')
     s.do(f'rewrite ! {s.at("the answer")} (λ (us : List Val). ‵ ({answer_row} .own r us)) ({R}L.lowers .val-is r _ is) refl')
     s.peek('the answer', answer_row, 'r', f'{lowered} ∷ []', 'is′')
     for k in κs[:-1]:
@@ -212,7 +216,7 @@ def walk():
     s.do(f'land ! (from ! (stop !)) {s.room("bytes", f"shr-slice-lawful 𝓤 H A W erased {κ} u8 .typed d _ is₂ .0")}')
     s.say('the timing is stored behind the borrow')
     stored = SESSION.say('typed', n=f'(r .{timing})', fact='(timing-is r is′)')
-    s.do(f'assigns ! (of-opd ! ({s.copy("answer", field)})) (from ! (hop ! (look ! {s.at("_session")} refl) (stop !))){MORE}(store-raw ! {s.at("lent")} refl ({stored}))')
+    s.do(f'assigns ! (of-opd ! ({s.copy_field("answer")})) (from ! (hop ! (look ! {s.at("_session")} refl) (stop !))){MORE}(store-raw ! {s.at("lent")} refl ({stored}))')
     s.say('what is returned is made')
     s.do(ANSWER.say('owned', fact='is′'), [], ['answer'])
     s.had(['answer', 'the part'])
@@ -241,6 +245,8 @@ text = written(
     'call',
     HEAD,
     parameters,
+    LOCALS,
+    {request: parameters.of(request, 'mir'), 'answer': ANSWER.say('mir')},
     [run, out],
     BODY,
     lifetimes=f'(κ {" ".join(κs)} : Lft) (q {" ".join(qs)} : Share) (b o : ℕ) (γ : GName)',
@@ -253,6 +259,10 @@ text = written(
     goes_out=goes_out(),
     at_exit=listed(AT_EXIT.values()),
     exits=exits(),
+    begun=listed(BEGUN.values()),
+    runs=body(),
+    passed='(κ, κs) (q, qs) (x, rest) (vptr b o ∷ [], vals)',
+    entry=f'(‵ (flft κ q) ⊛ raw (alive 𝓤 H A run.signature κs qs)) ∷ ‵ (fsep (MutRef (named 0) κ {row} .own x (vptr b o ∷ [])) Tail) ∷ []',
     walk=walk(),
     given=MORE.join([
         *(' '.join(path(of, i) for i in range(parameters.count)) for of in ('κs', 'qs')),

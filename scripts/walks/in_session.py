@@ -1,19 +1,19 @@
 #!/usr/bin/env -S python3 -B
-# Writes the proof of `calls::in_session` or of `calls::data_in_session`, a walk of its MIR, where the code is
+# Writes the proof of `sessions::in_session` or of `sessions::data_in_session`, a walk of its MIR, where the code is
 #     let handed = call(&mut session, p1, .., pk); handed.answer
 # or, of the latter, handed.bytes, with a parameter `mut session`. The names stand in parameters.py. To write them anew:
-#     scripts/walks/in_session.py in_session > crates/calls/proofs/in_session/Proof.antt && rt fmt
-#     scripts/walks/in_session.py data_in_session > crates/calls/proofs/data_in_session/Proof.antt && rt fmt
+#     scripts/walks/in_session.py in_session > crates/sessions/proofs/in_session/Proof.antt && rt fmt
+#     scripts/walks/in_session.py data_in_session > crates/sessions/proofs/data_in_session/Proof.antt && rt fmt
 import sys
 
-from frame import Callee, written
+from frame import Callee, begins, written
 from kinds import MORE, Parameters, listed, nested, path
 from parameters import AFTERWARDS, ANSWER, HANDED, HANDED_FIELDS, HANDS_OUT, OTHERS, SESSION
 from script import Script
 
 HEAD = '''
--- Generated: scripts/walks/in_session.py ‹function› > crates/calls/proofs/‹function›/Proof.antt && rt fmt
--- `calls::‹function›` meets its contract: a walk of its MIR. The session is copied into a local, which is lent to `call` for a lifetime that is made for it (`lends-ref`) and comes back once that is over (`ref-back`). Of what `call` returns the ‹field› is read.
+-- Generated: scripts/walks/in_session.py ‹function› > crates/sessions/proofs/‹function›/Proof.antt && rt fmt
+-- `sessions::‹function›` meets its contract: a walk of its MIR. The session is copied into a local, which is lent to `call` for a lifetime that is made for it (`lends-ref`) and comes back once that is over (`ref-back`). Of what `call` returns the ‹field› is read.
 -- At exit nothing is had of the numbers, the structs and the shared slices (`stay-dropped`), and of request what `call` says of its last list (`gave-slice`).
 -- Assumes nothing.
 '''
@@ -49,14 +49,6 @@ BODY = '''
   exits r zs e e₂ l =
       qed W (‹at-exit›) ∵
 ‹exits›
-
-  module _ (C : Calls 𝓤 H) (Λ : Loops 𝓤 H) (fm : FmC 𝓤 H (W .laws) C) ‹triples› where
-    walk : ‹relations›
-        → ent 𝓤 (onEntry 𝓤 H A self.signature κs qs (session, rest) (‹session› ∷ [], vals))
-        (WpFn 𝓤 H C Λ code.function (‹arguments›) Post)
-    walk ‹related› =
-        qed W (raw (alive 𝓤 H A self.signature κs qs) ∷ ‵ (fsep (‹S›T.the-row .own session (‹session› ∷ [])) Tail) ∷ []) ∵
-‹walk›
 '''
 
 ANSWER_KNOWN = '''
@@ -73,6 +65,7 @@ parameters = Parameters(SESSION, OTHERS)
 request, names, κ = parameters.request, parameters.names, parameters.κs[-1]
 S, R, Hd, (answer, bytes_), timing = SESSION.T, ANSWER.T, HANDED.T, HANDED_FIELDS, AFTERWARDS[1]
 session, row = SESSION.say('argument'), SESSION.say('row')
+LOCALS = ['result', *(p.n for p in parameters), 'lent', 'handed', 'reference', 'pointer', 'slice']
 before = names.index(request) + 1
 last = path('zs', before)
 ghost = f'((κs, qs, tt, (session, rest), ({session} ∷ [], vals)), tt)'
@@ -86,6 +79,7 @@ place, kind, known, ensures = RETURNS[function]
 field = HANDED_FIELDS[place]
 returned = {'n': f'(r .{field})', 'fact': f'({field}-is r _ is)', 'i': parameters.count - 1, 'κ': κ}
 value, own = kind.say('argument', **returned), kind.say('own', **returned)
+BEGUN = {'what the others own': '‵ Tail', 'the tokens': 'raw (alive 𝓤 H A self.signature κs qs)'}
 AT_EXIT = {
     'the result': f'‵ ({own} .own {returned["n"]} ({kind.say("values", **returned)}))',
     'the tokens': 'raw (alive 𝓤 H A self.signature κs qs)',
@@ -107,12 +101,18 @@ def walk():
     s = Script('the tokens', 'owned')
     s.do('fsplit !', ['owned'], ['session', 'what the others own'])
     s.drop('session')
-    s.enter(parameters, ['lent', 'handed', 'reference', 'pointer', 'slice'])
+    s.move(*BEGUN)
+    return s.text(begins(parameters, LOCALS), 8)
+
+
+def body():
+    s = Script(*BEGUN, locals=LOCALS)
     s.assign('lent', f'of-opd ! ({s.copy("session")})', SESSION.say('typed'))
-    s.assign('reference', 'addr ! (from ! (stop !))', 'tt, tt')
+    s.assign('reference', 'addr ! (from ! (stop !))', '(tt, tt)')
     s.reborrow(request, 'pointer', 'slice')
     s.say('the local is lent for a lifetime ν')
     l = s.place('lent')
+    s.retype('lent', f'({session})', 'lent-type')
     s.do(SESSION.say('owned'), [], ['owned'])
     part = f'partAt {row} fullShare'
     s.do(f'use2 W (‵ ({part} session {l} 0)){MORE}(part-in 𝓤 H A W {row} refl fullShare session {l} 0 ({session}))', ['_lent', 'owned'], ['lent'])
@@ -136,8 +136,7 @@ def walk():
     s.peek('what is handed out', f'{Hd}T.the-row α', 'r', 'w ∷ []', 'is')
     s.say()
     s.do(f'land ! (from ! (stop !)) {s.room("handed", f"LL.lawful ({Hd}T.the-type α) ({Hd}L.the-laws α) 𝓤 H A W .typed r _ is .0")}')
-    cell = f'fat fullShare ({Hd}L.mir erased) {s.place("handed")} 0'
-    s.do(f'rewrite ! {s.at("_handed")} (λ (u : Val). ‵ ({cell} u)) (ap only ({Hd}L.lowers α .val-is r _ is)) refl')
+    s.respell('handed', f'({Hd}L.lowers α .val-is r _ is)')
     s.say('the lifetime is ended, and the local comes back')
     s.do('split !', ['the tokens'], ["ν's token", 'the tokens'])
     s.do('lft-end ! tt', ["ν's token"], ['ended'])
@@ -149,8 +148,9 @@ def walk():
     s.do('pick ! (λ v.', ['lent'], ['lent'])
     s.do('split !', ['lent'], ['_lent', 'owned'])
     s.drop('owned')
+    s.retype('lent', 'v', '(sym lent-type)')
     s.say()
-    s.assign('result', f'of-opd ! ({s.copy("handed", place)})', kind.say('typed', **returned))
+    s.assign('result', f'of-opd ! ({s.copy_field("handed")})', kind.say('typed', **returned))
     if kind is ANSWER:
         s.drop('what is handed out')
         s.do(ANSWER.say('owned', **returned), [], ['the result'])
@@ -172,6 +172,8 @@ text = written(
     function,
     HEAD,
     parameters,
+    LOCALS,
+    {request: parameters.of(request, 'mir'), 'lent': SESSION.say('mir'), 'handed': f'{HANDED.say("mir")} erased'},
     [call],
     BODY,
     field=field,
@@ -182,6 +184,10 @@ text = written(
     ghost=ghost,
     at_exit=listed(AT_EXIT.values()),
     exits=exits(),
+    begun=listed(BEGUN.values()),
+    runs=body(),
+    passed=f'κs qs (session, rest) ({session} ∷ [], vals)',
+    entry=f'raw (alive 𝓤 H A self.signature κs qs) ∷ ‵ (fsep ({row} .own session ({session} ∷ [])) Tail) ∷ []',
     walk=walk(),
     given=f'{" ".join(path("κs", i) for i in range(parameters.count))} qs{MORE}{" ".join(path("a", i) for i in range(len(parameters)))}',
 )

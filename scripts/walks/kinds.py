@@ -44,7 +44,7 @@ def path(of, i):
     return f'({of}{" .1" * i} .0)'
 
 
-# ---- The kinds. A proof says of a parameter n: its type in the logic (own), the type of its value (meaning), its machine values and the one that is passed, how they
+# ---- The kinds. A proof says of a parameter n: its type in the logic (own) and in the MIR (mir), the type of its value (meaning), its machine values and the one that is passed, how they
 # are spelled and told, that the one has its MIR type (typed), given a fact, the type's relation, and what is had of it at exit (stays, goes). A slice has the i-th
 # lifetime of the signature's count, at a path in the lifetimes κs; it is called κ.
 PLAIN = {
@@ -56,6 +56,7 @@ PLAIN = {
 STRUCT = PLAIN | {
     'row': '‹T›T.the-row',
     'meaning': '‹T›',
+    'mir': '‹T›L.mir',
     'argument': '‹T›L.lowered ‹n›',
     'spells': '(λ d. ‹T›L.lowered d ∷ [])',
     'tells': '‹T›L.lowers .val-is',
@@ -70,7 +71,7 @@ NUMBER = PLAIN | {
     'argument': 'vint ‹width› ‹n›',
     'spells': 'uint-vals ‹width›',
     'tells': 'uint-tells ‹width›',
-    'typed': 'tt, record { fits = ‹fact› .1 }',
+    'typed': '(tt, record { fits = ‹fact› .1 })',
 }
 BOOL = PLAIN | {
     'row': 'bool',
@@ -94,6 +95,7 @@ SLICE = {
 MUT_SLICE = SLICE | {
     # it is passed on for good, and the callee says its last list
     'own': 'MutSlice (named ‹i›) ‹κ› u8',
+    'mir': 'sliceTy (tyRef (named ‹i›) mut (tyInt w8))',
     'tells': 'mut-slice-tells (named ‹i›) ‹path› u8',
     'typed': 'mut-slice-lawful 𝓤 H A W (named ‹i›) ‹κ› u8 .typed ‹n› _ ‹fact› .0',
     'stays': 'gave-slice (‹i› ∷ []) tt (plain (λ _. u8))',
@@ -105,7 +107,7 @@ LENT = STRUCT | {
     'argument': 'vptr b o',
     'spells': 'ptr-vals',
     'tells': 'mut-tells (named 0) (κs .0) ‹row›',
-    'typed': 'tt, tt',
+    'typed': '(tt, tt)',
     'stays': 'stay-ref (0 ∷ []) tt (plain (λ _. ‹row›))',
     'goes': 'goes-ref 𝓤 H A W ‹count› 0 tt (plain (λ _. ‹row›))',
 }
@@ -153,6 +155,11 @@ class Parameters(list):
     def say(self, word):
         """The word of each parameter."""
         return [self.word(p, word, self.first) for p in self]
+
+    def of(self, name, word):
+        """The word of the one of that name."""
+        (p,) = [p for p in self if p.n == name]
+        return self.word(p, word, self.first)
 
     def rest(self, word):
         """The word of each but the session, as in a signature that has no lifetime for it."""

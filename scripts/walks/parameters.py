@@ -1,15 +1,15 @@
-# What the walks of `calls` are about. Where a parameter, a record or the contract of `calls::run` changes, it changes here, and the walks are written anew. `call`
+# What the walks of `sessions` are about. Where a parameter, a record or the contract of `calls::run` changes, it changes here, and the walks are written anew. `call`
 # and the functions over it take what `run` takes, in the same order.
 from kinds import MUT_SLICE, SLICE, STRUCT, Parameter
 
-CRATE = 'calls'
+CRATE = 'sessions'
 
 # The first parameter, which `call` is lent.
 SESSION = Parameter('session', STRUCT, 'Timing', 'exchange.types')
 
 # The others, the replies last: a name of the proof's own (`data` is a word of antt's), and a kind of kinds.py.
 OTHERS = [
-    Parameter('ask', STRUCT, 'Ask'),
+    Parameter('ask', STRUCT, 'Ask', 'calls'),
     Parameter('request', MUT_SLICE),
     Parameter('address', SLICE),
     Parameter('size', SLICE),
@@ -19,7 +19,7 @@ OTHERS = [
 ]
 
 # The answer, with the place and the name of its field that is the session afterwards; and what `call` returns, an answer and a part of the replies.
-ANSWER = Parameter('r', STRUCT, 'Answered')
+ANSWER = Parameter('r', STRUCT, 'Answered', 'calls')
 AFTERWARDS = (3, 'timing')
 HANDED = Parameter('r', STRUCT, 'Handed')
 HANDED_FIELDS = ('answer', 'bytes')
@@ -38,4 +38,5 @@ HANDS_OUT = '''record {
 NAMES = '''Rattle.rules.specs.Answers: ifPositive
 Rattle.rules.specs.Client: Result
 Rattle.requests.specs.Meaning: callOf
-Rattle.calls.specs.Meaning: settingOf lentOf handedOf Called'''
+Rattle.calls.specs.Meaning: settingOf lentOf Called
+Rattle.sessions.specs.Meaning: handedOf'''

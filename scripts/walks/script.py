@@ -1,12 +1,18 @@
 # A proof script in the logic's calculus. A step acts on the context, the list of what is had, by position. Here what is had has a name, and the positions come of that.
 from kinds import MORE, below, listed, spread
 
+SEEN = 'unfold ty in'  # a local's type, which has a name, is seen
+
+
+def cells(locals):
+    return [item for name in locals for item in (f'_{name}', f'_{name} ends')]
+
 
 class Script:
-    """The cell of a local has the local's name behind a _."""
+    """The cell of a local has the local's name behind a _. Those of a body that is walked come first."""
 
-    def __init__(self, *context):
-        self.context, self.steps, self.open, self.locals = list(context), [], 0, []
+    def __init__(self, *context, locals=()):
+        self.context, self.steps, self.open, self.locals = [*cells(locals), *context], [], 0, locals
 
     def at(self, item):
         return self.context.index(item)
@@ -36,37 +42,33 @@ class Script:
         self.steps.append(f'-- {text or "[" + "; ".join(items) + "]"}')
 
     # the code: locals, places, operands, statements
-    def enter(self, parameters, others):
-        """The locals are made: the result, the parameters, which are stored, and the others."""
-        self.do(f'enter ! C Λ code.function ({listed(parameters.say("argument"))}) _')
-        self.locals = ['result', *(p.n for p in parameters), *others]
-        for name in self.locals:
-            self.do(f'alloc1 ! (λ {self.place(name)}.', [], [f'_{name}', f'_{name} ends'])
-        self.do('alloc0 !')
-        self.do('params1 !')
-        for p, typed in zip(parameters, parameters.say('typed')):
-            self.do(f'pass1 ! {self.room(p.n, typed)}')
-        self.do('pass0 !')
-
     def leave(self):
         """The result is read, and the locals are freed."""
         self.do(f'returns ! (look ! {self.at("_" + self.locals[0])} refl)')
-        for name in self.locals:
-            self.do(f'forget ! {self.at("_" + name)} refl')
-        for name in self.locals:
-            self.do('free1 !', [f'_{name}', f'_{name} ends'])
-        self.do('free0 !')
+        self.do(f'leaves ! ({listed("_" for _ in self.locals)})', cells(self.locals))
 
     def place(self, name):
         return f'l{below(self.locals.index(name))}'
 
-    def room(self, name, typed):
-        return f'(init ! {self.at("_" + name)} refl ({typed}))'
+    def cell(self, name, value):
+        return f'‵ (fat fullShare (ty {self.locals.index(name)}) {self.place(name)} 0 {value})'
 
-    def copy(self, name, field=None):
-        if field is None:
-            return f'load ! (from ! (stop !)) (look ! {self.at("_" + name)} refl)'
-        return f'load ! (from ! (fld ! refl (stop !))) (look-in ! {self.at("_" + name)} (sub ! {field} refl (whole !)))'
+    def room(self, name, typed):
+        return f'(init ! {self.at("_" + name)} refl ({SEEN} {typed}))'
+
+    def retype(self, name, value, type_):
+        """The local's type, by what is known of it."""
+        self.do(f'rewrite ! {self.at("_" + name)} (λ (τ : Ty). ‵ (fat fullShare τ {self.place(name)} 0 {value})) {type_} refl')
+
+    def respell(self, name, values):
+        """What the local holds, by the relation of what is in it."""
+        self.do(f'rewrite ! {self.at("_" + name)} (λ (u : Val). {self.cell(name, "u")}) (ap only {values}) refl')
+
+    def copy(self, name):
+        return f'load ! (from ! (stop !)) (look ! {self.at("_" + name)} refl)'
+
+    def copy_field(self, name):
+        return f'copies-field ! {self.at("_" + name)} {name}-type refl refl'
 
     def operands(self, copies):
         return spread([*(f'(and-then ! ({copy})' for copy in copies), '(no-more !)' + ')' * len(copies)])
@@ -76,8 +78,8 @@ class Script:
 
     def reborrow(self, name, pointer, slice_):
         """`&mut *name`, of a slice, for a call."""
-        self.assign(pointer, f'addr ! (from ! (fld ! refl (hop ! (look-in ! {self.at("_" + name)} (sub ! 0 refl (whole !))) (stop !))))', 'tt, tt')
-        self.assign(slice_, f'agg ! {self.operands([self.copy(pointer), self.copy(name, 1)])}', f'tt, (tt, (record {{ fits = g-{name} .0 .1 .0 }}, tt))')
+        cells = [f'_{name}', f'_{pointer}', f'_{slice_}']
+        self.do(f'reborrows ! {name}-type ({SEEN} (tt, tt)) ({SEEN} (tt, (tt, (record {{ fits = g-{name} .0 .1 .0 }}, tt))))', cells, cells)
 
     def call(self, callee, pre, ghost, passed, value, result, meaning, tokens, own, given):
         """A call, where what it asks at the ghost value is had. It gives its result at a machine value: the tokens beside what the result owns, and what is ensured."""

@@ -2,8 +2,8 @@
 use Prim.Native.Nat.{ℕ}
 use mathlib.Core.Bool.{Bool, true, false}
 use mathlib.Core.Path.{_≡_}
-use mathlib.Core.List.{List, []}
-use Rattle.rules.specs.Answers.{Outcome, positive, suppressed, negative, timeout, disconnected, transport, fault, refused, ifPositive}
+use mathlib.Core.List.{List}
+use Rattle.rules.specs.Answers.{Outcome, positive, suppressed, negative, timeout, disconnected, transport, fault, refused}
 use Rattle.rules.specs.Calls as rules
 use Rattle.rules.specs.Client.{Result}
 use Rattle.rules.specs.Client as client
@@ -65,17 +65,8 @@ isRefused (transport n) = false
 isRefused (fault f) = false
 isRefused (refused n) = true
 
--- The data that an answer hands out of the reply bytes; none where it is not positive.
-abbrev pub handedOf : Answered → List ℕ → List ℕ
-handedOf r replies = ifPositive (outcomeOf replies (r .answer .outcome)) (λ p. p .bytes) []
-
 -- The call's result is r, with this in the request buffer afterwards. The places lie in the lent reply bytes, so their lengths are determined too.
 pub record Called (strict : Bool) (w : Setting) (c : rules.Call) (l : Lent) (r : Answered) (buffer : List ℕ) : Type 0 where
   pub means : resultOf (l .replies) r buffer ≡ client.call strict w c l
   pub outcome : InsideOutcome (l .replies) (r .answer .outcome)
   pub reply : Inside (l .replies) (r .answer .reply)
-
--- The call hands out these bytes, with this in the request buffer afterwards.
-pub record HandsOut (strict : Bool) (w : Setting) (c : rules.Call) (l : Lent) (bytes : List ℕ) (buffer : List ℕ) : Type 0 where
-  pub means : bytes ≡ ifPositive (client.call strict w c l .answer .outcome) (λ p. p .bytes) []
-  pub wrote : buffer ≡ client.call strict w c l .buffer

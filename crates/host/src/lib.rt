@@ -121,7 +121,7 @@ pub extern "C" fn bintrochis_call(
     let size = part(arguments, at_size, size_length as usize);
     let data = part(arguments, at_data, arguments.len());
     let session = Timing { p2, star: p2_star };
-    let x = calls::in_session(session, ask, request, address, size, data, events, replies);
+    let x = sessions::in_session(session, ask, request, address, size, data, events, replies);
     *answer = numbers(x);
     0
 }

@@ -41,7 +41,7 @@ pub fn answer_of(log: &[u8]) -> LogAnswer
                 p2: h.p2,
                 star: h.star,
             };
-            let answered = calls::in_session(
+            let answered = sessions::in_session(
                 session,
                 ask,
                 &mut request,

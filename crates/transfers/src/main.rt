@@ -70,7 +70,7 @@ fn identify() {
     let mut request = [0u8; 64];
     let events = [0, 0, 0, 8, 0, 0, 0, 0, 0, 8];
     let replies = [0x62, 0xf1, 0x8a, 0x48, 0x6f, 0x69, 0x73, 0x74];
-    let record = calls::data_in_session(
+    let record = sessions::data_in_session(
         session,
         ask,
         &mut request,

@@ -1,0 +1,2 @@
+-- What the contracts of `sessions` cite besides `rules` and `calls`.
+pub mod Meaning
