@@ -67,6 +67,9 @@ enum bintrochis_event_kind {
 /* No request is longer. */
 #define BINTROCHIS_LONGEST_REQUEST 4095
 
+/* In place of a limit of notices, 0 to 255: there is none. */
+#define BINTROCHIS_NO_LIMIT 65535
+
 /* The numbers of an answer, by their places in it. */
 enum bintrochis_number {
     BINTROCHIS_OUTCOME = 0,
@@ -99,7 +102,8 @@ enum bintrochis_outcome {
     BINTROCHIS_DEVIATION = 6, /* strict: the reply breaks a rule, numbered 1 to 15 */
     BINTROCHIS_LENGTH = 7,    /* lenient: the reply is too short to read */
     BINTROCHIS_OVERFLOW = 8,  /* calls 11 and 12: a block length above 2^64 - 1 */
-    BINTROCHIS_REFUSED = 9    /* nothing to send: refusal 1 to 10; request and timing are untouched */
+    BINTROCHIS_REFUSED = 9,   /* nothing to send: refusal 1 to 10; request and timing are untouched */
+    BINTROCHIS_PENDING_LIMIT = 10 /* under a limit of K notices: the one after the K-th, which is counted and is the reply that settled */
 };
 
 /* What the functions return. */
@@ -109,22 +113,25 @@ enum bintrochis_result {
                              - call is above 15, or in the second function none of 5, 6, 11 and 12;
                              - a flag does not suit the call, or one that it needs is missing;
                              - a field that the call does not use is not 0 (value, sub, lengths, overall), or value is above 255 for calls 0, 9, 13, 15;
+                             - limit is 256 to 65,534;
                              - there are fewer argument bytes than the two lengths say, or more without BINTROCHIS_DATA; in the second
                                function: there are data bytes without BINTROCHIS_DATA. */
 };
 
-/* Any call. `arguments` are address, size and data, one behind the other, the first two as long as `address_length` and `size_length` say. */
+/* Any call. `arguments` are address, size and data, one behind the other, the first two as long as `address_length` and `size_length` say.
+ * `limit` is how many notices the call bears, 0 to 255, or BINTROCHIS_NO_LIMIT. The one after ends it, and with a limit every call finishes
+ * by P2 + limit x P2*. */
 uint8_t bintrochis_call(uint8_t call, uint8_t flags, uint16_t value, uint8_t sub, uint8_t address_length, uint8_t size_length, uint32_t p2,
-                        uint32_t p2_star, uint32_t overall, const uint8_t *arguments, size_t arguments_length, uint8_t *request,
-                        size_t request_length, const uint8_t *events, size_t events_length, const uint8_t *replies, size_t replies_length,
-                        uint64_t BINTROCHIS_ANSWER(answer));
+                        uint32_t p2_star, uint32_t overall, uint16_t limit, const uint8_t *arguments, size_t arguments_length,
+                        uint8_t *request, size_t request_length, const uint8_t *events, size_t events_length, const uint8_t *replies,
+                        size_t replies_length, uint64_t BINTROCHIS_ANSWER(answer));
 
 /* Calls 5, 6, 11 and 12 with address and size as numbers, each with a width in bytes: 1 to 8 or, if `wide`, 1 to 15, padded with zeros on
  * the left. Refusals 6 and 7 come from here alone. */
 uint8_t bintrochis_call_alfid(uint8_t call, uint8_t flags, uint16_t value, uint64_t address, uint64_t size, size_t address_width,
-                              size_t size_width, bool wide, uint32_t p2, uint32_t p2_star, uint32_t overall, const uint8_t *data,
-                              size_t data_length, uint8_t *request, size_t request_length, const uint8_t *events, size_t events_length, const uint8_t *replies,
-                              size_t replies_length, uint64_t BINTROCHIS_ANSWER(answer));
+                              size_t size_width, bool wide, uint32_t p2, uint32_t p2_star, uint32_t overall, uint16_t limit,
+                              const uint8_t *data, size_t data_length, uint8_t *request, size_t request_length, const uint8_t *events,
+                              size_t events_length, const uint8_t *replies, size_t replies_length, uint64_t BINTROCHIS_ANSWER(answer));
 
 #ifdef __cplusplus
 }

@@ -31,13 +31,14 @@ static void nothing(void) {}
 
 static void in_bytes(void) {
     result = bintrochis_call(header[2], header[3], (uint16_t)u16_at(header + 4), header[6], header[7], header[8], u32_at(header + 24),
-                             u32_at(header + 28), u32_at(header + 32), arguments, argument_count, request, sizeof request, events, event_bytes,
-                             replies, reply_count, answer);
+                             u32_at(header + 28), u32_at(header + 32), BINTROCHIS_NO_LIMIT, arguments, argument_count, request,
+                             sizeof request, events, event_bytes, replies, reply_count, answer);
 }
 
 static void in_numbers(void) {
-    result = bintrochis_call_alfid(header[2], header[3], header[2] > 10 ? 0x0102 : 0, 0x0102030405060708, 0x1112131415161718, 8, 8, false, 50, 5000, 0, arguments,
-                                   argument_count, request, sizeof request, events, event_bytes, replies, reply_count, answer);
+    result = bintrochis_call_alfid(header[2], header[3], header[2] > 10 ? 0x0102 : 0, 0x0102030405060708, 0x1112131415161718, 8, 8, false, 50,
+                                   5000, 0, BINTROCHIS_NO_LIMIT, arguments, argument_count, request, sizeof request, events, event_bytes,
+                                   replies, reply_count, answer);
 }
 
 static void enter(void) { body(); }

@@ -9,6 +9,7 @@ fn main() {
         server_timing: true,
         suppressed: false,
         overall: None,
+        notice_limit: None,
         wide: false,
     };
     let asked = Asked::new(&call, &config);

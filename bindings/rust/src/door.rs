@@ -37,6 +37,7 @@ extern "C" {
         p2: u32,
         p2_star: u32,
         overall: u32,
+        limit: u16,
         arguments: *const u8,
         arguments_length: usize,
         request: *mut u8,
@@ -60,6 +61,7 @@ extern "C" {
         p2: u32,
         p2_star: u32,
         overall: u32,
+        limit: u16,
         data: *const u8,
         data_length: usize,
         request: *mut u8,
@@ -74,7 +76,10 @@ extern "C" {
     fn bintrochis_name_number(code: u8) -> u8;
 }
 
-/// What stands in the fields of a log's header, and P2, P2* and T.
+/// In place of a limit of notices: none.
+pub const NO_LIMIT: u16 = 65535;
+
+/// What stands in the fields of a log's header, and the limit of notices, which no log has.
 #[derive(Debug, Clone, Copy, PartialEq, Eq)]
 pub struct Fields {
     pub call: u8,
@@ -83,6 +88,7 @@ pub struct Fields {
     pub sub: u8,
     pub memory: Memory,
     pub overall: u32,
+    pub limit: u16,
 }
 
 /// Lengths of address and size where these are bytes, or in the `alfid` form the numbers themselves.
@@ -124,6 +130,7 @@ pub fn call(fields: Fields, [p2, p2_star]: [u32; 2], lent: Lent<'_>, answer: &mu
         sub,
         memory,
         overall,
+        limit,
     } = fields;
     let Lent {
         arguments,
@@ -145,6 +152,7 @@ pub fn call(fields: Fields, [p2, p2_star]: [u32; 2], lent: Lent<'_>, answer: &mu
                 p2,
                 p2_star,
                 overall,
+                limit,
                 arguments.as_ptr(),
                 arguments.len(),
                 request.as_mut_ptr(),
@@ -173,6 +181,7 @@ pub fn call(fields: Fields, [p2, p2_star]: [u32; 2], lent: Lent<'_>, answer: &mu
                 p2,
                 p2_star,
                 overall,
+                limit,
                 arguments.as_ptr(),
                 arguments.len(),
                 request.as_mut_ptr(),
@@ -205,6 +214,22 @@ mod tests {
             sub: 0,
             memory: PLAIN,
             overall: 0,
+            limit: NO_LIMIT,
+        }
+    }
+
+    fn alfid() -> Fields {
+        Fields {
+            call: 5,
+            value: 0,
+            memory: Memory::Alfid {
+                address: 1,
+                size: 1,
+                address_width: 1,
+                size_width: 1,
+                wide: false,
+            },
+            ..read()
         }
     }
 
@@ -250,6 +275,11 @@ mod tests {
             ..read()
         };
         assert_eq!(tried(faults, &[]), (DONE, false));
+        for limit in [0, 1, 255, NO_LIMIT] {
+            let limited = |fields| Fields { limit, ..fields };
+            assert_eq!(tried(limited(read()), &[]), (DONE, false), "{limit}");
+            assert_eq!(tried(limited(alfid()), &[]), (DONE, false), "{limit}");
+        }
     }
 
     #[test]
@@ -376,6 +406,12 @@ mod tests {
         ];
         for (fields, arguments) in misuse {
             assert_eq!(tried(fields, arguments), (MISUSE, true), "{fields:?}");
+        }
+        for limit in [256, 257, 32768, NO_LIMIT - 1] {
+            for fields in [read(), alfid()] {
+                let fields = Fields { limit, ..fields };
+                assert_eq!(tried(fields, &[]), (MISUSE, true), "{fields:?}");
+            }
         }
     }
 }

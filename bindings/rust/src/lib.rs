@@ -32,6 +32,8 @@ pub struct Config {
     pub suppressed: bool,
     /// The overall timeout T, in milliseconds since sending; none if left out.
     pub overall: Option<u32>,
+    /// How many notices (NRC 0x78) a call bears; the one after ends it with [`Outcome::PendingLimit`]. None if left out.
+    pub notice_limit: Option<u8>,
     /// The `alfid` forms take widths of 1 to 15 bytes, padded with zeros on the left, and not only of 1 to 8.
     pub wide: bool,
 }
@@ -181,6 +183,8 @@ pub enum Outcome<'r> {
     BlockLengthOverflow,
     /// Nothing to send, by the refusal of this number.
     Refused(u8),
+    /// The notice after as many as the limit bears.
+    PendingLimit,
 }
 
 /// What a call answers.
@@ -351,6 +355,7 @@ impl Asked {
             sub: sub.unwrap_or(0),
             memory,
             overall: config.overall.unwrap_or(0),
+            limit: config.notice_limit.map_or(door::NO_LIMIT, u16::from),
         };
         Asked { fields, arguments }
     }
@@ -410,6 +415,7 @@ fn outcome<'r>(numbers: &Numbers, data: &'r [u8]) -> Outcome<'r> {
         7 => Outcome::InvalidResponseLength,
         8 => Outcome::BlockLengthOverflow,
         9 => Outcome::Refused(detail as u8),
+        10 => Outcome::PendingLimit,
         other => unreachable!("the library is proved to number no outcome {other}"),
     }
 }

@@ -1,5 +1,5 @@
-//! The ten examples of document 01 through the bindings, the requests of all calls, the list of faults, and what the bindings add:
-//! enums, slices, a session.
+//! The ten examples of document 01 through the bindings, the requests of all calls, the list of faults, the limit of notices, and what
+//! the bindings add: enums, slices, a session.
 
 use bintrochis::{
     Answer, Asked, Call, Config, Events, Memory, NegativeResponseCode, Outcome, ProtocolDeviation,
@@ -11,6 +11,7 @@ const STRICT: Config = Config {
     server_timing: true,
     suppressed: false,
     overall: None,
+    notice_limit: None,
     wide: false,
 };
 const LENIENT: Config = Config {
@@ -340,6 +341,84 @@ fn the_list_of_faults() {
         deviation(ProtocolDeviation::UnexpectedPositiveResponse),
         10,
     );
+}
+
+/// A notice to `READ`.
+const WAIT: &[u8] = &[0x7f, 0x22, 0x78];
+
+/// The limit's outcome behind nothing but notices, with finishing time and both counts.
+fn ends(time: u64, notices: usize) -> (Outcome<'static>, u64, usize, usize) {
+    (Outcome::PendingLimit, time, notices, notices)
+}
+
+/// A call under a limit of notices gives outcome, finishing time, events read and notices.
+fn limited(
+    call: Call<'_>,
+    config: Config,
+    limit: u8,
+    said: &[(u32, &[u8])],
+    wanted: (Outcome<'_>, u64, usize, usize),
+) {
+    let config = Config {
+        notice_limit: Some(limit),
+        ..config
+    };
+    told(call, config, said, |answer| {
+        assert_eq!(
+            (answer.outcome, answer.time, answer.events, answer.notices),
+            wanted,
+            "{call:?} {config:?}"
+        )
+    });
+}
+
+#[test]
+fn the_notice_behind_the_limit_ends_the_call() {
+    let other = &[0x7f, 0x31, 0x78][..];
+    for config in [STRICT, LENIENT] {
+        limited(READ, config, 0, &[(10, WAIT)], ends(10, 1));
+        limited(READ, config, 1, &[(10, WAIT), (20, WAIT)], ends(20, 2));
+        // Past the deadline it is not read, and the bound P2 + K x P2* is met.
+        let late = [(10, WAIT), (5011, WAIT)];
+        limited(READ, config, 1, &late, (Outcome::Timeout, 5010, 1, 1));
+        let silent = [(50, WAIT)];
+        limited(READ, config, 1, &silent, (Outcome::Timeout, 5050, 1, 1));
+    }
+    // What is a notice: strict by its SID, lenient by its third byte.
+    let wrong = deviation(ProtocolDeviation::InvalidRequestServiceId);
+    limited(READ, STRICT, 0, &[(10, other)], (wrong, 10, 1, 0));
+    limited(READ, LENIENT, 0, &[(10, other)], ends(10, 1));
+    // No waiting until P2 under suppression.
+    let reset = &[0x7f, 0x11, 0x78][..];
+    limited(RESET, STRICT, 0, &[(10, reset)], ends(10, 1));
+    // T cuts it.
+    let cut = (Outcome::Timeout, 9, 0, 0);
+    limited(READ, until(9), 0, &[(10, WAIT)], cut);
+    limited(READ, until(10), 0, &[(10, WAIT)], ends(10, 1));
+}
+
+#[test]
+fn a_limit_of_255_and_what_an_answer_behind_it_has() {
+    let positive = &[0x62, 0xf1, 0x90, 0x41][..];
+    let mut said: Vec<(u32, &[u8])> = (1..=255).map(|time| (time * 10, WAIT)).collect();
+    said.push((2560, positive));
+    let answered = (Outcome::PositiveResponse(&[0x41]), 2560, 256, 255);
+    limited(READ, STRICT, 255, &said, answered);
+    limited(READ, STRICT, 254, &said, ends(2550, 255));
+    said.insert(255, (2555, WAIT));
+    limited(READ, STRICT, 255, &said, ends(2555, 256));
+    gives(READ, STRICT, &said, answered.0, 2560);
+
+    let config = Config {
+        notice_limit: Some(1),
+        ..STRICT
+    };
+    told(READ, config, &[(5, WAIT), (6, WAIT)], |answer| {
+        assert_eq!(answer.outcome, Outcome::PendingLimit);
+        assert_eq!(answer.reply, WAIT);
+        assert_eq!(answer.request, [0x22, 0xf1, 0x90]);
+        assert_eq!(answer.block_length, 0);
+    });
 }
 
 #[test]

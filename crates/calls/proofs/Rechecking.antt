@@ -23,6 +23,7 @@ NotPositive outcome.Disconnected = Unit {0}
 NotPositive (outcome.Transport n) = Unit {0}
 NotPositive (outcome.Fault f) = Unit {0}
 NotPositive (outcome.Refused n) = Unit {0}
+NotPositive outcome.PendingLimit = Unit {0}
 
 module _ (replies : List ℕ) where
   stays : (o : Outcome) → NotPositive o → (f : rules.Part → rules.Outcome) → outcomeOf replies o ≡ ifPositive (outcomeOf replies o) f (outcomeOf replies o)
@@ -34,6 +35,7 @@ module _ (replies : List ℕ) where
   stays (outcome.Transport k) n f = refl
   stays (outcome.Fault e) n f = refl
   stays (outcome.Refused k) n f = refl
+  stays outcome.PendingLimit n f = refl
 
   module _ {ask : Ask} {a s : List ℕ} {heard : Answer} where
     pub as-heard : {o : Outcome} → NotPositive o → heard .outcome ≡ o → Rechecked ask a s replies heard (heard .outcome)

@@ -8,7 +8,7 @@ use mathlib.Core.Option.{Option}
 use lib.Dec.{eqb}
 use lib.ListN.{length, take}
 use Rattle.rules.specs.After.{checked, after, numberOf, adopted, timingOf}
-use Rattle.rules.specs.Answers.{Outcome, positive, suppressed, negative, timeout, disconnected, transport, fault, refused, ifPositive}
+use Rattle.rules.specs.Answers.{Outcome, positive, suppressed, negative, timeout, pendingLimit, disconnected, transport, fault, refused, ifPositive}
 use Rattle.rules.specs.Answers as answers
 use Rattle.rules.specs.Bytes.{value}
 use Rattle.rules.specs.Calls as rules
@@ -55,6 +55,7 @@ refused-test disconnected e = absurd (false≢true e)
 refused-test (transport n) e = absurd (false≢true e)
 refused-test (fault f) e = absurd (false≢true e)
 refused-test (refused n) e = tt
+refused-test pendingLimit e = absurd (false≢true e)
 
 -- It is one wherever its data stands.
 refused-anywhere : (l : List ℕ) (o : outcome.Outcome) → isRefused (outcomeOf [] o) ≡ isRefused (outcomeOf l o)
@@ -66,6 +67,7 @@ refused-anywhere l variant.Disconnected = refl
 refused-anywhere l (variant.Transport n) = refl
 refused-anywhere l (variant.Fault f) = refl
 refused-anywhere l (variant.Refused n) = refl
+refused-anywhere l variant.PendingLimit = refl
 
 -- The exchange is refused exactly where the events break a limit.
 module _ (strict : Bool) (a : exchange.Asked) (overall : Option ℕ) (events replies : List ℕ) where
@@ -100,6 +102,7 @@ lent-outcome strict quiet c replies place disconnected h = refl
 lent-outcome strict quiet c replies place (transport n) h = refl
 lent-outcome strict quiet c replies place (fault f) h = refl
 lent-outcome strict quiet c replies place (refused n) h = refl
+lent-outcome strict quiet c replies place pendingLimit h = refl
 
 -- A call's number does not depend on what stands beside it, and so neither do the number that it returns and the timing that it sets.
 module _ (k : Call) (a s d : List ℕ) (o : Outcome) where
@@ -159,7 +162,7 @@ module _ (g : Given) where
       reply = omega arith;
     }
 
-    module _ (none-yet : p .refusal ≡ 0) {heard : Answer} (exchanged : Answers (l .replies) heard (judged (askedOf (record { sid = p .sid; sub = p .sub; timing = session })))) where
+    module _ (none-yet : p .refusal ≡ 0) {heard : Answer} (exchanged : Answers (l .replies) heard (judged (askedOf (record { sid = p .sid; sub = p .sub; timing = session; limit = ask .limit })))) where
       -- The exchange was asked with the call's SID and sub-function.
       answers-it : Answers (l .replies) heard (judged (asked w c))
       answers-it =
@@ -171,7 +174,7 @@ module _ (g : Given) where
           sent-sub (ask .quiet) (rowOf k .sub) ∙
           ap (withBit7 (ask .quiet)) (sym (sub-is (rules.given (g .a)) (rules.given (g .s)) (g .d) k))
           in
-          subst (λ (x : exchange.Asked). Answers (l .replies) heard (judged x)) (λ i. record { sid = sid i; sub = sub i; timing = timed session }) exchanged
+          subst (λ (x : exchange.Asked). Answers (l .replies) heard (judged x)) (λ i. record { sid = sid i; sub = sub i; timing = timed session; limit = w .limit }) exchanged
 
       outcome-heard : outcomeOf (l .replies) (heard .outcome) ≡ judged (asked w c) .outcome
       outcome-heard = ap (λ (x : answers.Answer). x .outcome) (answers-it .means)

@@ -1,10 +1,10 @@
--- Of a whole call: at most one answer fits its contract, and demands 1 and 3 are carried to the code; and of two calls in a row.
-use Prim.Native.Nat.{ℕ}
+-- Of a whole call: at most one answer fits its contract, and demands 1 and 3 and the bound of a limit are carried to the code; and of two calls in a row.
+use Prim.Native.Nat.{ℕ, _+_, _*_, _≤_}
 use mathlib.Core.Bool.{Bool, true}
 use mathlib.Core.Path.{_≡_, sym, _∙_, ap, subst⁻¹}
 use mathlib.Core.Logic.{_↔_}
 use mathlib.Core.List.{List}
-use mathlib.Core.Option.{none}
+use mathlib.Core.Option.{none, some}
 use Rattle.rules.specs.Answers as rules
 use Rattle.rules.specs.Calls.{Call}
 use Rattle.rules.specs.Client.{Result, eventsIn, call}
@@ -14,6 +14,7 @@ use Rattle.rules.specs.Demand3 as demand
 use Rattle.rules.specs.Settings.{Timing, Setting, Lent}
 use Rattle.rules.proofs.Demand1.{demand1}
 use Rattle.rules.proofs.Demand3.{demand3}
+use Rattle.rules.proofs.Limited.{limited-holds}
 use Rattle.exchange.specs.Meaning.{answerOf}
 use Rattle.exchange.specs.Places.{Answers}
 use Rattle.exchange.specs.declared.types.Answer.{Answer}
@@ -51,6 +52,12 @@ pub demand-1 : {strict : Bool} {w : Setting} {c : Call} {l : Lent} {r : Answered
     → answerOf (l .replies) (r .answer) .outcome ≡ rules.refused n → Untouched w c l n (resultOf (l .replies) r buffer)
 demand-1 {strict} {w} {c} {l} {n = n} k e =
     subst⁻¹ (Untouched w c l n) (k .means) (demand1 strict w c l n (sym (ap (λ (y : Result). y .answer .outcome) (k .means)) ∙ e))
+
+-- Request Nine: "with a limit every call finishes by P2 + K × P2*", P2 and P2* as at its start.
+pub finishes : {strict : Bool} {w : Setting} {c : Call} {l : Lent} {r : Answered} {buffer : List ℕ} {k : ℕ} → Called strict w c l r buffer → w .limit ≡ some k
+    → r .answer .time ≤ w .timing .p2 + k * w .timing .star
+finishes {strict} {w} {c} {l} {k = k} called e =
+    subst⁻¹ (λ (y : Result). y .answer .time ≤ w .timing .p2 + k * w .timing .star) (called .means) (limited-holds .finishes strict w c l k e)
 
 -- Two calls in a row, the second in the session that the first leaves: it runs with the timing that the first set.
 pub in-a-row : {strict strict′ : Bool} {w : Setting} {c c′ : Call} {l l′ : Lent} {r r′ : Answered} {buffer buffer′ : List ℕ} (ask : Ask) → Called strict w c l r buffer

@@ -3,13 +3,13 @@ use Prim.Native.Nat.{ℕ}
 use mathlib.Core.Bool.{Bool, true, false}
 use mathlib.Core.Path.{_≡_}
 use mathlib.Core.List.{List}
-use Rattle.rules.specs.Answers.{Outcome, positive, suppressed, negative, timeout, disconnected, transport, fault, refused}
+use Rattle.rules.specs.Answers.{Outcome, positive, suppressed, negative, timeout, pendingLimit, disconnected, transport, fault, refused}
 use Rattle.rules.specs.Calls as rules
 use Rattle.rules.specs.Client.{Result}
 use Rattle.rules.specs.Client as client
 use Rattle.rules.specs.Settings as settings
 use Rattle.rules.specs.Settings.{Setting, Lent}
-use Rattle.exchange.specs.Meaning.{outcomeOf, answerOf, overallOf, timed}
+use Rattle.exchange.specs.Meaning.{outcomeOf, answerOf, overallOf, limitOf, timed}
 use Rattle.exchange.specs.Places.{Inside, InsideOutcome}
 use Rattle.exchange.specs.States.{noPlace}
 use Rattle.exchange.specs.declared.types.Outcome.the-variants.{Refused}
@@ -21,13 +21,14 @@ abbrev pub settingOf : Ask → Timing → Setting
 settingOf ask session = record {
   timing = timed session;
   overall = overallOf (ask .overall);
+  limit = limitOf (ask .limit);
   serverTiming = ask .server;
   quiet = ask .quiet;
 }
 
 -- The same with another session timing.
 abbrev pub inTiming : settings.Timing → Setting → Setting
-inTiming t w = record { timing = t; overall = w .overall; serverTiming = w .serverTiming; quiet = w .quiet }
+inTiming t w = record { timing = t; overall = w .overall; limit = w .limit; serverTiming = w .serverTiming; quiet = w .quiet }
 
 abbrev pub lentOf : List ℕ → List ℕ → List ℕ → Lent
 lentOf buffer events replies = record { buffer = buffer; events = events; replies = replies }
@@ -64,6 +65,7 @@ isRefused disconnected = false
 isRefused (transport n) = false
 isRefused (fault f) = false
 isRefused (refused n) = true
+isRefused pendingLimit = false
 
 -- The call's result is r, with this in the request buffer afterwards. The places lie in the lent reply bytes, so their lengths are determined too.
 pub record Called (strict : Bool) (w : Setting) (c : rules.Call) (l : Lent) (r : Answered) (buffer : List ℕ) : Type 0 where

@@ -1,6 +1,7 @@
 // A whole call, by value: the core that all named functions share.
 use exchange::types::Answer;
 use exchange::types::Asked;
+use exchange::types::NoticeLimit;
 use exchange::types::Outcome;
 use exchange::types::Place;
 use exchange::types::RequestTimeout;
@@ -24,6 +25,7 @@ pub struct Ask {
     pub strict: bool,
     pub server: bool,
     pub overall: RequestTimeout,
+    pub limit: NoticeLimit,
 }
 
 // The answer, the number that calls 11 and 12 return, how many bytes were sent, and the session's timing afterwards.
@@ -72,6 +74,7 @@ fn rechecked(ask: Ask, address: &[u8], size: &[u8], replies: &[u8], heard: Answe
         Outcome::Transport(_) => outcome,
         Outcome::Fault(_) => outcome,
         Outcome::Refused(_) => outcome,
+        Outcome::PendingLimit => outcome,
     }
 }
 
@@ -120,6 +123,7 @@ fn is_refused(outcome: Outcome) -> bool
         Outcome::Transport(_) => false,
         Outcome::Fault(_) => false,
         Outcome::Refused(_) => true,
+        Outcome::PendingLimit => false,
     }
 }
 
@@ -140,6 +144,7 @@ pub fn run(
     let quiet = ask.quiet;
     let strict = ask.strict;
     let overall = ask.overall;
+    let limit = ask.limit;
     let prepared = requests::prepare(call, quiet, address, size, data, request.len());
     let number = prepared.refusal;
     if number != 0 {
@@ -150,6 +155,7 @@ pub fn run(
         sid: prepared.sid,
         sub,
         timing: session,
+        limit,
     };
     let heard = exchange::exchange(strict, asked, overall, events, replies);
     let outcome = heard.outcome;

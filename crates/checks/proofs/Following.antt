@@ -10,7 +10,7 @@ use lib.Dec.{eqb}
 use Rattle.rules.specs.After as after
 use Rattle.rules.specs.After.{adopted, timingOf}
 use Rattle.rules.specs.Answers as rules
-use Rattle.rules.specs.Answers.{positive, suppressed, negative, timeout, disconnected, transport, fault, refused, ifPositive}
+use Rattle.rules.specs.Answers.{positive, suppressed, negative, timeout, pendingLimit, disconnected, transport, fault, refused, ifPositive}
 use Rattle.rules.specs.Bytes.{value}
 use Rattle.rules.specs.Calls.{Call, given, numbered}
 use Rattle.rules.specs.Settings.{Timing}
@@ -37,6 +37,7 @@ place-bytes l outcome.Disconnected = refl
 place-bytes l (outcome.Transport n) = refl
 place-bytes l (outcome.Fault f) = refl
 place-bytes l (outcome.Refused n) = refl
+place-bytes l outcome.PendingLimit = refl
 
 -- What comes of a positive's data comes of an outcome's bytes, if no bytes give what no positive gives.
 pub of-bytes : {A : Type 0} (f : List ℕ → A) (o : rules.Outcome)
@@ -49,6 +50,7 @@ of-bytes f disconnected = refl
 of-bytes f (transport n) = refl
 of-bytes f (fault e) = refl
 of-bytes f (refused n) = refl
+of-bytes f pendingLimit = refl
 
 -- n: the call's number; bytes: the outcome's data.
 module _ (c : Call) (o : rules.Outcome) (n : ℕ) (call : n ≡ numbered c) where

@@ -11,7 +11,7 @@ use lib.ListN.{length, take, drop, length-take, length-drop}
 use lib.Seq.{take-all}
 use Rattle.rules.specs.After.{lengthBytes, serviceChecks, handed, first, checked, numberOf}
 use Rattle.rules.specs.Answers as rules
-use Rattle.rules.specs.Answers.{Part, part, behind, positive, suppressed, negative, timeout, disconnected, transport, fault, refused, ifPositive}
+use Rattle.rules.specs.Answers.{Part, part, behind, positive, suppressed, negative, timeout, pendingLimit, disconnected, transport, fault, refused, ifPositive}
 use Rattle.rules.specs.Calls as calls
 use Rattle.rules.specs.Calls.{request, session, reset, security, testerPresent, readMemory, writeMemory, readIdentifier, writeIdentifier, faultCount, routine, download, upload, transfer, transferExit, faultList, subOf, withBit7, head, loads}
 use Rattle.rules.specs.Refusals.{between, arguments}
@@ -120,6 +120,7 @@ Lies from to disconnected = Unit {0}
 Lies from to (transport n) = Unit {0}
 Lies from to (fault f) = Unit {0}
 Lies from to (refused n) = Unit {0}
+Lies from to pendingLimit = Unit {0}
 
 -- The reply at a place, with the SID and the sub-function that a positive has.
 module _ (strict quiet : Bool) (l : List ℕ) (place : Place) (c : calls.Call)
@@ -190,3 +191,4 @@ number-fitting strict c o p = go o
     go (transport n) = none-of (loads c)
     go (fault f) = none-of (loads c)
     go (refused n) = none-of (loads c)
+    go pendingLimit = none-of (loads c)

@@ -37,6 +37,7 @@ placeOf outcome.Disconnected = noPlace
 placeOf (outcome.Transport n) = noPlace
 placeOf (outcome.Fault f) = noPlace
 placeOf (outcome.Refused n) = noPlace
+placeOf outcome.PendingLimit = noPlace
 
 abbrev pub answered : List ℕ → rules.Outcome → rules.Outcome
 answered replies o = ifPositive o (λ p. positive (lent replies p)) o

@@ -55,6 +55,7 @@ fn place_of(outcome: Outcome) -> Place
         Outcome::Transport(_) => Place::NOWHERE,
         Outcome::Fault(_) => Place::NOWHERE,
         Outcome::Refused(_) => Place::NOWHERE,
+        Outcome::PendingLimit => Place::NOWHERE,
     }
 }
 

@@ -14,6 +14,7 @@ use Rattle.rules.specs.Events as events
 use Rattle.rules.specs.Events.{Entry, eventOf, entryAt, entriesFrom, entries, sound, withinLimits}
 use Rattle.rules.specs.Exchange as rules
 use Rattle.rules.specs.Exchange.{Asked, state, start, on, ends, turn, settle, silence, under, exchange}
+use Rattle.rules.specs.Limited.{spent}
 use Rattle.rules.proofs.Turns.{raised, turn-raised, ReadsOne, turn-reads-one}
 use Rattle.exchange.specs.declared.types.Answer.{Answer}
 use Rattle.exchange.specs.declared.types.Outcome.the-variants as outcome
@@ -126,8 +127,11 @@ module _ {strict : Bool} {a : Asked} (overall : Option ℕ) {l r : List ℕ} whe
 
       module _ {x : Turn} (turns : Turns strict a overall now e r x) (early : e .time ≤ now .deadline) (room : n ≤ 18446744073709551615) where
         -- The turn from the state where nothing was read, and the turn that is taken.
+        abbrev left-over : Asked
+        left-over = spent (length (held .at .notices)) a
+
         abbrev bare : rules.Turn
-        bare = turn strict a (state (held .at .hush) (held .at .deadline) [] []) (eventOf r e)
+        bare = turn strict left-over (state (held .at .hush) (held .at .deadline) [] []) (eventOf r e)
 
         turned : (z : rules.Turn) → bare ≡ z → turn strict a (held .at) (eventOf r e) ≡ raised (held .at .read) (held .at .notices) z
         turned z p = turn-raised strict a (held .at) (eventOf r e) ∙ ap (raised (held .at .read) (held .at .notices)) p
@@ -145,7 +149,7 @@ module _ {strict : Bool} {a : Asked} (overall : Option ℕ) {l r : List ℕ} whe
         counts ts us h k = plus-counts overall ts us (omega (arith, more, room))
 
         pub after-on : {s : State} → x ≡ On s → Held strict a overall l r n (i + 1) s
-        after-on {s} p = go bare refl (turn-reads-one strict a (held .at .hush) (held .at .deadline) (eventOf r e)) (taken (On s) p)
+        after-on {s} p = go bare refl (turn-reads-one strict left-over (held .at .hush) (held .at .deadline) (eventOf r e)) (taken (On s) p)
           where
             go : (z : rules.Turn) → bare ≡ z → ReadsOne z → TurnsTo overall r (beginning e) (stateOf overall (held .at)) (On s) z
                 → Held strict a overall l r n (i + 1) s
@@ -166,7 +170,7 @@ module _ {strict : Bool} {a : Asked} (overall : Option ℕ) {l r : List ℕ} whe
 
         pub ends-it : {s : Settled} {v : Answer} → x ≡ Ends s → v ≡ underOf overall s → Answers r v (over strict a overall l r)
         unfolding exchange
-        ends-it {s} {v} p u = go bare refl (turn-reads-one strict a (held .at .hush) (held .at .deadline) (eventOf r e)) (taken (Ends s) p)
+        ends-it {s} {v} p u = go bare refl (turn-reads-one strict left-over (held .at .hush) (held .at .deadline) (eventOf r e)) (taken (Ends s) p)
           where
             go : (z : rules.Turn) → bare ≡ z → ReadsOne z → TurnsTo overall r (beginning e) (stateOf overall (held .at)) (Ends s) z
                 → Answers r v (under overall (begun strict a l r))

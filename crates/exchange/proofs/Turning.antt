@@ -1,7 +1,7 @@
 -- One event's turn, and the exchange over the events that are left.
 use Prim.Native.Nat.{ℕ, _+_, _-_, _≤_, _<_}
 use native.Mathlib.Omega.{arith}
-use mathlib.Core.Bool.{Bool, false}
+use mathlib.Core.Bool.{Bool, true, false}
 use mathlib.Core.Logic.{_≢_}
 use mathlib.Core.Path.{_≡_, refl, sym, ap, _∙_}
 use mathlib.Core.List.{List, [], _∷_, map}
@@ -10,12 +10,13 @@ use borrow.Author.Tests.{le-leb, lt-leb, eq-eqb, ne-eqb}
 use Rattle.rules.specs.Events as events
 use Rattle.rules.specs.Events.{Entry, eventOf, named, entryAt, entriesFrom}
 use Rattle.rules.specs.Exchange as rules
-use Rattle.rules.specs.Exchange.{Asked, look, finish, on, ends, turn, silence, settle}
+use Rattle.rules.specs.Limited.{less, spent}
+use Rattle.rules.specs.Exchange.{Asked, allows, look, finish, on, ends, turn, silence, settle}
 use Rattle.rules.proofs.Turns as law
 use Rattle.exchange.specs.declared.types.Place.{Place}
 use Rattle.exchange.specs.declared.types.Outcome.{Outcome}
 use Rattle.exchange.specs.declared.types.Outcome.the-variants as outcome
-use Rattle.exchange.specs.declared.types.Outcome.the-variants.{Disconnected, Transport}
+use Rattle.exchange.specs.declared.types.Outcome.the-variants.{Disconnected, Transport, PendingLimit}
 use Rattle.exchange.specs.declared.types.Step.{Step}
 use Rattle.exchange.specs.declared.types.Step.the-variants.{Pending, Settles}
 use Rattle.exchange.specs.declared.types.Count.{Count}
@@ -32,6 +33,14 @@ seen-as : (strict : Bool) (a : Asked) (hush : Bool) {e : Entry} {l : List ℕ} {
     → Looked l s (look strict a hush (partOf l p)) → look strict a hush (named l e) ≡ stepOf l s
 seen-as strict a hush place seen = ap (look strict a hush) (sym (place .means)) ∙ sym (seen .means)
 
+-- The limit plays no part in that.
+seen-spent : (strict : Bool) (a : Asked) (n : ℕ) (hush : Bool) {e : Entry} {l : List ℕ} {p : Place} {s : Step} → Named l e p
+    → Looked l s (look strict a hush (partOf l p)) → look strict (spent n a) hush (named l e) ≡ stepOf l s
+seen-spent strict a n hush {e} {l} place seen = law.look-spent strict a n hush (named l e) ∙ seen-as strict a hush place seen
+
+still : (a : Asked) (n : ℕ) {more b : Bool} → more ≡ allows (a .limit) n → more ≡ b → allows (less n (a .limit)) 0 ≡ b
+still a n q b = sym (law.still-allows (a .limit) n) ∙ sym q ∙ b
+
 -- An outcome waits or not wherever its data stands.
 pub finish-anywhere : (a : Asked) (l : List ℕ) (o : Outcome) (t : ℕ) → finish a (outcomeOf [] o) t ≡ finish a (outcomeOf l o) t
 finish-anywhere a l (outcome.PositiveResponse p) t = refl
@@ -42,18 +51,37 @@ finish-anywhere a l outcome.Disconnected t = refl
 finish-anywhere a l (outcome.Transport n) t = refl
 finish-anywhere a l (outcome.Fault f) t = refl
 finish-anywhere a l (outcome.Refused n) t = refl
+finish-anywhere a l outcome.PendingLimit t = refl
 
 module _ {strict : Bool} {a : Asked} {overall : Option ℕ} {before : State} {e : Entry} {l : List ℕ} {read : Count}
     (counts : read ≡ counted overall (e .time) (before .read)) where
   module _ (kind : e .kind ≡ 0) {p : Place} (place : Named l e p) {s : Step} (seen : Looked l s (look strict a (before .hush) (partOf l p))) where
-    pub turns-notice : {notices : Count} → s ≡ Pending → notices ≡ counted overall (e .time) (before .notices)
-        → Turns strict a overall before e l (On (record { hush = false; deadline = e .time + a .timing .star; read = read; notices = notices }))
-    turns-notice h n = record { means = rw (eq-eqb (e .kind) 0 kind, seen-as strict a (before .hush) place seen, h, counts, n) }
+    module _ {notices : Count} (wait : s ≡ Pending) (noted : notices ≡ counted overall (e .time) (before .notices)) where
+      pub turns-notice : {more : Bool} → more ≡ allows (a .limit) (before .notices .all) → more ≡ true
+          → Turns strict a overall before e l (On (record { hush = false; deadline = e .time + a .timing .star; read = read; notices = notices }))
+      turns-notice q m = record {
+        means = rw (eq-eqb (e .kind) 0 kind, seen-spent strict a (before .notices .all) (before .hush) place seen, wait, still a (before .notices .all) q m, counts, noted);
+      }
+
+      pub turns-limit : {more : Bool} → more ≡ allows (a .limit) (before .notices .all) → more ≡ false
+          → Turns strict a overall before e l (Ends (record { outcome = PendingLimit; time = e .time; read = read; notices = notices; reply = p }))
+      turns-limit q m = record {
+        means = rw (eq-eqb (e .kind) 0 kind, seen-spent strict a (before .notices .all) (before .hush) place seen, wait, still a (before .notices .all) q m) (record {
+          means = refl;
+          time = refl;
+          read = counts;
+          notices = noted;
+          reply = place .means;
+          inside = tt;
+          whole = place .whole;
+          starts = omega (arith, ap (λ x. x .at) (place .means));
+        });
+      }
 
     pub turns-reply : {o : Outcome} {t : ℕ} → s ≡ Settles o → t ≡ finish a (outcomeOf [] o) (e .time)
         → Turns strict a overall before e l (Ends (record { outcome = o; time = t; read = read; notices = before .notices; reply = p }))
     turns-reply {o} {t} h f = record {
-      means = rw (eq-eqb (e .kind) 0 kind, seen-as strict a (before .hush) place seen, h) (record {
+      means = rw (eq-eqb (e .kind) 0 kind, seen-spent strict a (before .notices .all) (before .hush) place seen, h) (record {
         means = refl;
         time = f ∙ finish-anywhere a l o (e .time);
         read = counts;

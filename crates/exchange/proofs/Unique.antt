@@ -8,7 +8,7 @@ use mathlib.Core.Option.{Option, none, some}
 use lib.ListN.{length, getD, drop, length-drop}
 use lib.Seq.{length-take-le}
 use Rattle.rules.specs.Answers as rules
-use Rattle.rules.specs.Answers.{Part, nowhere, deviation, deviation8, badLength, overflow, positive, suppressed, negative, timeout, disconnected, transport, fault, refused}
+use Rattle.rules.specs.Answers.{Part, nowhere, deviation, deviation8, badLength, overflow, positive, suppressed, negative, timeout, pendingLimit, disconnected, transport, fault, refused}
 use Rattle.rules.specs.Events.{Entry}
 use Rattle.rules.specs.Exchange as exchange
 use Rattle.exchange.specs.declared.error.Maximum.{Maximum}
@@ -73,6 +73,7 @@ outcomeFrom disconnected = outcome.Disconnected
 outcomeFrom (transport n) = outcome.Transport n
 outcomeFrom (fault f) = outcome.Fault (faultFrom f)
 outcomeFrom (refused n) = outcome.Refused n
+outcomeFrom pendingLimit = outcome.PendingLimit
 
 abbrev pub stepFrom : exchange.Step → Step
 stepFrom exchange.pending = Pending
@@ -137,6 +138,7 @@ module _ (l : List ℕ) where
   outcome-back (outcome.Transport n) h = refl
   outcome-back (outcome.Fault f) h = ap outcome.Fault (fault-back f)
   outcome-back (outcome.Refused n) h = refl
+  outcome-back outcome.PendingLimit h = refl
 
   step-back : (s : Step) → InsideStep l s → stepFrom (stepOf l s) ≡ s
   step-back Pending h = refl

@@ -4,7 +4,7 @@ use mathlib.Core.List.{List}
 use mathlib.Core.Option.{Option, none, some}
 use lib.ListN.{take, drop}
 use Rattle.rules.specs.Answers as rules
-use Rattle.rules.specs.Answers.{Part, part, deviation, deviation8, badLength, overflow, positive, suppressed, negative, timeout, disconnected, transport, fault, refused}
+use Rattle.rules.specs.Answers.{Part, part, deviation, deviation8, badLength, overflow, positive, suppressed, negative, timeout, pendingLimit, disconnected, transport, fault, refused}
 use Rattle.rules.specs.InOrder.{Check, judge}
 use Rattle.rules.specs.Events.{Entry}
 use Rattle.rules.specs.Exchange as exchange
@@ -23,6 +23,8 @@ use Rattle.exchange.specs.declared.types.SubFunction.the-variants.{Absen
 use Rattle.exchange.specs.declared.types.RequestTimeout.{RequestTimeout}
 use Rattle.exchange.specs.declared.types.RequestTimeout.the-variants.{Never, At}
 use Rattle.exchange.specs.declared.types.Timing.{Timing}
+use Rattle.exchange.specs.declared.types.NoticeLimit.{NoticeLimit}
+use Rattle.exchange.specs.declared.types.NoticeLimit.the-variants.{Unlimited, AtMost}
 use Rattle.exchange.specs.declared.types.Asked.{Asked}
 use Rattle.exchange.specs.declared.types.Event.{Event}
 use Rattle.exchange.specs.declared.types.Outcome.{Outcome}
@@ -96,6 +98,7 @@ outcomeOf replies outcome.Disconnected = disconnected
 outcomeOf replies (outcome.Transport n) = transport n
 outcomeOf replies (outcome.Fault f) = fault (faultOf f)
 outcomeOf replies (outcome.Refused n) = refused n
+outcomeOf replies outcome.PendingLimit = pendingLimit
 
 abbrev pub stepOf : List ℕ → Step → exchange.Step
 stepOf replies Pending = exchange.pending
@@ -121,8 +124,12 @@ overallOf (At overall) = some overall
 abbrev pub timed : Timing → settings.Timing
 timed t = record { p2 = t .p2; star = t .star }
 
+abbrev pub limitOf : NoticeLimit → Option ℕ
+limitOf Unlimited = none
+limitOf (AtMost k) = some k
+
 abbrev pub askedOf : Asked → exchange.Asked
-askedOf a = record { sid = a .sid; sub = subOf (a .sub); timing = timed (a .timing) }
+askedOf a = record { sid = a .sid; sub = subOf (a .sub); timing = timed (a .timing); limit = limitOf (a .limit) }
 
 abbrev pub entryOf : Event → Entry
 entryOf e = record { time = e .time; kind = e .kind; offset = e .offset; size = e .size }

@@ -9,6 +9,7 @@ use lib.ListN.{length}
 use Rattle.rules.specs.Answers as rules
 use Rattle.rules.specs.Events.{Entry, eventOf, named}
 use Rattle.rules.specs.Exchange as exchange
+use Rattle.rules.specs.Limited.{spent}
 use Rattle.exchange.specs.declared.types.Place.{Place}
 use Rattle.exchange.specs.declared.types.Outcome.{Outcome}
 use Rattle.exchange.specs.declared.types.Outcome.the-variants as outcome
@@ -34,6 +35,7 @@ InsideOutcome replies outcome.Disconnected = Unit {0}
 InsideOutcome replies (outcome.Transport n) = Unit {0}
 InsideOutcome replies (outcome.Fault f) = Unit {0}
 InsideOutcome replies (outcome.Refused n) = Unit {0}
+InsideOutcome replies outcome.PendingLimit = Unit {0}
 
 abbrev pub InsideStep : List ℕ → Step → Type 0
 InsideStep replies Pending = Unit {0}
@@ -85,6 +87,6 @@ TurnsTo overall replies begins before (On s) (exchange.ends x) = ⊥
 TurnsTo overall replies begins before (Ends s) (exchange.on x) = ⊥
 TurnsTo overall replies begins before (Ends s) (exchange.ends x) = SettlesAs overall replies begins before s x
 
--- One event in time, whatever was read before it: `rules`' turn from the state where nothing was.
+-- One event in time, whatever was read before it: `rules`' turn from the state where nothing was, with what is left of the limit.
 pub record Turns (strict : Bool) (a : exchange.Asked) (overall : Option ℕ) (s : State) (e : Entry) (replies : List ℕ) (r : Turn) : Type 0 where
-  pub means : TurnsTo overall replies (beginning e) s r (exchange.turn strict a (exchange.state (s .hush) (s .deadline) [] []) (eventOf replies e))
+  pub means : TurnsTo overall replies (beginning e) s r (exchange.turn strict (spent (s .notices .all) a) (exchange.state (s .hush) (s .deadline) [] []) (eventOf replies e))

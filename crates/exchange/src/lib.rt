@@ -9,6 +9,7 @@ use types::Answer;
 use types::Asked;
 use types::Count;
 use types::Event;
+use types::NoticeLimit;
 use types::Outcome;
 use types::Place;
 use types::RequestTimeout;
@@ -21,7 +22,7 @@ ghost use mathlib.Core.Bool.{Bool};
 ghost use mathlib.Core.List.{[]};
 ghost use Rattle.rules.specs.Events.{withinLimits};
 ghost use Rattle.rules.specs.Exchange as rules;
-ghost use Rattle.exchange.specs.Meaning.{askedOf, overallOf, entryOf, outcomeOf};
+ghost use Rattle.exchange.specs.Meaning.{askedOf, limitOf, overallOf, entryOf, outcomeOf};
 ghost use Rattle.exchange.specs.Counts.{inTime, oneMore, counted};
 ghost use Rattle.exchange.specs.States.{startOf, silenceOf, underOf};
 ghost use Rattle.exchange.specs.Places.{Turns, Answers};
@@ -45,6 +46,7 @@ fn waits(outcome: Outcome) -> bool
         Outcome::Transport(_) => false,
         Outcome::Fault(_) => false,
         Outcome::Refused(_) => false,
+        Outcome::PendingLimit => false,
     }
 }
 
@@ -111,7 +113,17 @@ pub fn start(asked: Asked) -> State
     }
 }
 
-// What one event in time does. "Idle changes nothing. End gives disconnected, error gives transport."
+// Whether the limit allows one more notice behind so many.
+fn allows(limit: NoticeLimit, notices: usize) -> bool
+    ensures { λ r. ⌜ r ≡ rules.allows (limitOf limit) notices ⌝ }
+{
+    match limit {
+        NoticeLimit::Unlimited => true,
+        NoticeLimit::AtMost(k) => notices < k as usize,
+    }
+}
+
+// What one event in time does. "The notice after the K-th ends the call with the new outcome `pendinglimit` at its arrival time". "Idle changes nothing. End gives disconnected, error gives transport."
 pub fn turn(
     strict: bool,
     asked: Asked,
@@ -126,17 +138,28 @@ pub fn turn(
     let time = event.time as u64;
     let hush = state.hush;
     let notices = state.notices;
+    let limit = asked.limit;
     let read = counted(state.read, overall, time);
     if kind == 0 {
         let reply = named(event, replies);
         match look(strict, asked, hush, replies, reply) {
             Step::Pending => {
+                let more = allows(limit, notices.all);
                 let notices = counted(notices, overall, time);
-                return Turn::On(State {
-                    hush: false,
-                    deadline: time + asked.timing.star as u64,
+                if more {
+                    return Turn::On(State {
+                        hush: false,
+                        deadline: time + asked.timing.star as u64,
+                        read,
+                        notices,
+                    });
+                }
+                return Turn::Ends(Settled {
+                    outcome: Outcome::PendingLimit,
+                    time,
                     read,
                     notices,
+                    reply,
                 });
             }
             Step::Settles(outcome) => {

@@ -28,11 +28,18 @@ pub struct Timing {
     pub star: u32,
 }
 
-// What the exchange knows of the request that was sent, and the session's timing.
+// "a limit of K notices, 0..255, or none"
+pub enum NoticeLimit {
+    Unlimited,
+    AtMost(u8),
+}
+
+// What the exchange knows of the request that was sent, the session's timing, and the limit of notices.
 pub struct Asked {
     pub sid: u8,
     pub sub: SubFunction,
     pub timing: Timing,
+    pub limit: NoticeLimit,
 }
 
 // "Event, 10 bytes: time u32, kind u16, offset into reply bytes u16, length u16; kind 3 puts its number in length."
@@ -52,6 +59,7 @@ pub enum Outcome {
     Transport(u16),
     Fault(Fault),
     Refused(u8),
+    PendingLimit,
 }
 
 // What a reply does: it asks for patience, or settles the exchange.

@@ -1,26 +1,28 @@
--- Demands 1 and 3 of document 01, carried to the fifteen numbers of the door: of any numbers and request that fit its contract with result 0.
-use Prim.Native.Nat.{ℕ}
+-- Demands 1 and 3 of document 01 and the bound of request Nine, carried to the fifteen numbers of the door: of any numbers and request that fit its contract with result 0.
+use Prim.Native.Nat.{ℕ, _+_, _*_, _≤_}
 use native.Mathlib.Omega.{arith}
 use mathlib.Core.Bool.{Bool, true, false, cond, false≢true}
 use mathlib.Core.Path.{_≡_, refl, sym, _∙_, ap, subst, subst⁻¹}
 use mathlib.Core.Logic.{_↔_}
 use mathlib.Core.List.{List, [], _∷_}
-use mathlib.Core.Option.{none}
+use mathlib.Core.Option.{Option, none, some}
 use lib.Dec.{eqb, leb}
 use lib.ListN.{take, getD}
-use Rattle.rules.specs.Answers.{Answer, Outcome, positive, suppressed, negative, timeout, disconnected, transport, fault, refused, deviation, deviation8, badLength, overflow}
+use Rattle.rules.specs.Answers.{Answer, Outcome, positive, suppressed, negative, timeout, pendingLimit, disconnected, transport, fault, refused, deviation, deviation8, badLength, overflow}
 use Rattle.rules.specs.Calls.{Call, Field}
 use Rattle.rules.specs.Client.{Result, eventsIn, call}
 use Rattle.rules.specs.Conversations.{Conversation}
 use Rattle.rules.specs.Demand1.{Numbered, Untouched}
 use Rattle.rules.specs.Demand3.{Named, Refused, Answers}
 use Rattle.rules.specs.Logs.{Header, flag, settingOf}
+use Rattle.rules.specs.Limited.{inLimit}
 use Rattle.rules.specs.Settings.{Timing, Setting, Lent}
 use Rattle.rules.proofs.Demand1.{demand1}
 use Rattle.rules.proofs.Demand3.{demand3}
+use Rattle.rules.proofs.Limited.{limited-holds}
 use Rattle.host.specs.Numbers.{valuesOf, answerNumbers, numbersOf}
 use Rattle.log_call.specs.Asking.{chosen}
-use Rattle.host.specs.Door.{asked, Served}
+use Rattle.host.specs.Door.{limitIn, asked, Served}
 
 -- Result 0 tells that a call was asked.
 was-asked : (b : Bool) → _≡_ {A = ℕ} 0 (cond b 0 1) → b ≡ true
@@ -34,6 +36,7 @@ is-refused (positive p) h = absurd (false≢true h)
 is-refused suppressed h = absurd (false≢true h)
 is-refused (negative n) h = absurd (false≢true h)
 is-refused timeout h = absurd (false≢true h)
+is-refused pendingLimit h = absurd (false≢true h)
 is-refused disconnected h = absurd (false≢true h)
 is-refused (transport n) h = absurd (false≢true h)
 is-refused (fault (deviation n)) h = absurd (false≢true h)
@@ -47,6 +50,7 @@ not-refused (positive p) h k = k
 not-refused suppressed h k = k
 not-refused (negative n) h k = k
 not-refused timeout h k = k
+not-refused pendingLimit h k = k
 not-refused disconnected h k = k
 not-refused (transport n) h k = k
 not-refused (fault f) h k = k
@@ -56,6 +60,7 @@ answers (positive p) = (λ h. tt, λ h. refl)
 answers suppressed = (λ h. tt, λ h. refl)
 answers (negative n) = (λ h. tt, λ h. refl)
 answers timeout = (λ h. false≢true h, λ h. absurd h)
+answers pendingLimit = (λ h. false≢true h, λ h. absurd h)
 answers disconnected = (λ h. false≢true h, λ h. absurd h)
 answers (transport n) = (λ h. false≢true h, λ h. absurd h)
 answers (fault (deviation n)) = (λ h. false≢true h, λ h. absurd h)
@@ -79,11 +84,17 @@ outcomeIn told = getD told 0 0
 abbrev pub answerIn : List ℕ → List ℕ
 answerIn told = take 11 told
 
+abbrev pub timeIn : List ℕ → ℕ
+timeIn told = getD told 4 0
+
 -- Result 0 comes of numbers that ask a call: the call of these fields with this address, size and data.
-module _ {b : Bool} (h : Header) (a s : Field) (d : List ℕ) (l : Lent) {told after′ told′ : List ℕ}
-    (served : Served b (asked h a s d l) (l .buffer) told 0 after′ told′) where
+module _ {b : Bool} (h : Header) (k : ℕ) (a s : Field) (d : List ℕ) (l : Lent) {told after′ told′ : List ℕ}
+    (served : Served b (asked h k a s d l) (l .buffer) told 0 after′ told′) where
+  abbrev setting : Setting
+  setting = inLimit (limitIn k) (settingOf h)
+
   abbrev result : Result
-  result = asked h a s d l
+  result = asked h k a s d l
 
   numbers-are : told′ ≡ numbersOf result
   numbers-are = served .answer ∙ ap (λ (y : Bool). cond y (numbersOf result) told) (was-asked b (served .done))
@@ -100,24 +111,31 @@ module _ {b : Bool} (h : Header) (a s : Field) (d : List ℕ) (l : Lent) {told a
   answer-is = ap answerIn numbers-are
 
   -- A refused call returns one number of document 01's for it, sent nothing, and leaves the request buffer and the session timing as they were.
-  pub demand-1 : outcomeIn told′ ≡ 9 → (n : ℕ) × (Numbered (chosen h a s d) n × (told′ ≡ refusedNumbers n (settingOf h .timing)) × (after′ ≡ l .buffer))
-  demand-1 k =
-      let found = is-refused (result .answer .outcome) (ap (λ (y : ℕ). eqb y 9) (sym outcome-is ∙ k)) in
-      let u = demand1 (eqb (flag 1 h) 1) (settingOf h) (chosen h a s d) l (found .0) (found .1) in
+  pub demand-1 : outcomeIn told′ ≡ 9 → (n : ℕ) × (Numbered (chosen h a s d) n × (told′ ≡ refusedNumbers n (setting .timing)) × (after′ ≡ l .buffer))
+  demand-1 e =
+      let found = is-refused (result .answer .outcome) (ap (λ (y : ℕ). eqb y 9) (sym outcome-is ∙ e)) in
+      let u = demand1 (eqb (flag 1 h) 1) setting (chosen h a s d) l (found .0) (found .1) in
       (found .0, (u .numbered, numbers-are ∙ refused-numbers result (found .1) u, request-is ∙ u .buffer))
+
+  -- With a limit of k notices it finishes by P2 + k × P2*.
+  pub finishes : leb k 255 ≡ true → timeIn told′ ≤ setting .timing .p2 + k * setting .timing .star
+  unfolding numbersOf
+  finishes e =
+      subst⁻¹ (λ (y : List ℕ). timeIn y ≤ setting .timing .p2 + k * setting .timing .star) numbers-are
+      (limited-holds .finishes (eqb (flag 1 h) 1) setting (chosen h a s d) l k (ap (λ (b : Bool). cond {A = Option ℕ} b (some k) none) e))
 
   -- A strict call of the fourteen, with no overall timeout, that is not refused answers positive, suppressed or negative exactly when the events begin with an allowed
   -- conversation; and any such conversation has these numbers.
-  module _ (strict : eqb (flag 1 h) 1 ≡ true) (never : settingOf h .overall ≡ none) (named : Named (chosen h a s d)) (ok : eqb (outcomeIn told′) 9 ≡ false) where
+  module _ (strict : eqb (flag 1 h) 1 ≡ true) (never : setting .overall ≡ none) (named : Named (chosen h a s d)) (ok : eqb (outcomeIn told′) 9 ≡ false) where
     abbrev pub Held : Answer → Type 0
-    Held = Conversation (settingOf h) (chosen h a s d) (eventsIn l)
+    Held = Conversation setting (chosen h a s d) (eventsIn l)
 
     strictly : (x : Answer) → ((result .answer ≡ x) × Answers (x .outcome)) ↔ Held x
     strictly x =
         let unrefused = not-refused (result .answer .outcome) (ap (λ (y : ℕ). eqb y 9) (sym outcome-is) ∙ ok) in
-        let by-true = subst (λ (m : Bool). ¬ Refused (call m (settingOf h) (chosen h a s d) l .answer .outcome)) strict unrefused in
-        subst⁻¹ (λ (m : Bool). ((call m (settingOf h) (chosen h a s d) l .answer ≡ x) × Answers (x .outcome)) ↔ Held x) strict
-        (demand3 (settingOf h) (chosen h a s d) l named never by-true x)
+        let by-true = subst (λ (m : Bool). ¬ Refused (call m setting (chosen h a s d) l .answer .outcome)) strict unrefused in
+        subst⁻¹ (λ (m : Bool). ((call m setting (chosen h a s d) l .answer ≡ x) × Answers (x .outcome)) ↔ Held x) strict
+        (demand3 setting (chosen h a s d) l named never by-true x)
 
     pub demand-3 : (leb (outcomeIn told′) 2 ≡ true) ↔ (x : Answer) × Held x
     demand-3 =

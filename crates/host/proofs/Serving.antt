@@ -1,17 +1,21 @@
 -- From a whole call's contract to the door's: the numbers ask a call, or none.
 use Prim.Native.Nat.{ℕ}
 use native.Mathlib.Omega.{arith}
-use mathlib.Core.Bool.{Bool, true, false}
+use mathlib.Core.Bool.{Bool, true, false, cond}
 use mathlib.Core.Path.{_≡_, refl, sym, _∙_, ap, subst}
 use mathlib.Core.List.{List}
-use lib.Dec.{eqb}
+use mathlib.Core.Option.{none, some}
+use lib.Dec.{leb, eqb}
 use lib.ListN.{length, take, drop, length-drop}
 use lib.Seq.{take-all}
 use Rattle.rules.specs.Calls.{Call, Field, given}
 use Rattle.rules.specs.Client.{Result}
 use Rattle.rules.specs.Logs.{Header, flag, usesOf, fieldsOk}
 use Rattle.rules.specs.Logs as rules
+use Rattle.rules.specs.Limited.{inLimit}
 use Rattle.rules.specs.Settings.{Setting, Lent}
+use Rattle.exchange.specs.declared.types.NoticeLimit.the-variants.{Unlimited, AtMost}
+use Rattle.exchange.specs.Meaning.{limitOf}
 use Rattle.requests.specs.Meaning.{callFrom, callOf}
 use Rattle.calls.specs.Meaning.{settingOf, Called}
 use Rattle.calls.specs.declared.Ask.{Ask}
@@ -20,35 +24,46 @@ use Rattle.log_call.specs.Asking.{chosen, sessionOf, Asks, AskedBy}
 use Rattle.log_call.specs.declared.Fields.{Fields}
 use Rattle.log_call.specs.declared.Fields.the-variants.{Unsound}
 use Rattle.host.specs.Numbers.{numbersOf, Tells}
-use Rattle.host.specs.Door.{fits, asksOne, addressIn, sizeIn, dataIn, asked, Served, InBytes}
+use Rattle.host.specs.Door.{limitIn, fits, asksOne, addressIn, sizeIn, dataIn, asked, limitFor, limitedTo, Served, InBytes}
 
 -- What the code was told of the header that it made: what it asks, and, if its fields suit a call, whether the arguments fit.
 pub told-of : {h made : Header} {x y : Fields} → made ≡ h → x ≡ y → AskedBy made x → AskedBy h y
 told-of {h} {made} {x} {y} e f k = subst (λ (m : Header). AskedBy m y) e (subst (λ (z : Fields). AskedBy made z) f k)
 
-pub unsuited : {h made : Header} {x : Fields} (n : ℕ) → made ≡ h → x ≡ Unsound → AskedBy made x → asksOne h n ≡ false
-unsuited {h} n e f k = rw (told-of {h = h} e f k)
+pub unsuited : {h made : Header} {x : Fields} (limit n : ℕ) → made ≡ h → x ≡ Unsound → AskedBy made x → asksOne h limit n ≡ false
+unsuited {h} limit n e f k = rw (told-of {h = h} e f k)
 
-pub suited : {h made : Header} (n : ℕ) {b : Bool} → made ≡ h → fieldsOk h (usesOf (h .call)) ≡ true → b ≡ fits made n → asksOne h n ≡ b
-suited n e sound f = rw sound (sym (f ∙ ap (λ (k : Header). fits k n) e))
+pub suited : {h made : Header} (limit n : ℕ) {b : Bool} → made ≡ h → fieldsOk h (usesOf (h .call)) ≡ true → b ≡ fits made limit n → asksOne h limit n ≡ b
+suited limit n e sound f = rw sound (sym (f ∙ ap (λ (k : Header). fits k limit n) e))
 
 pub asks-none : {b : Bool} {x : Result} {before told : List ℕ} → b ≡ false → Served b x before told 1 before told
 asks-none e = record { done = rw e; request = rw e; answer = rw e }
 
--- A call as its fields ask it.
-meant : {h : Header} {ask : Ask} (a s : Field) (d : List ℕ) {lent : Lent} {x : Answered} {after′ : List ℕ} → Asks h ask
-    → Called (ask .strict) (settingOf ask (sessionOf h)) (callFrom (ask .call) a s d) lent x after′
-    → Called (eqb (flag 1 h) 1) (rules.settingOf h) (chosen h a s d) lent x after′
-meant {h} {ask} a s d {lent} {x} {after′} k called =
-    subst (λ (c : Call). Called (eqb (flag 1 h) 1) (rules.settingOf h) c lent x after′) (k .call a s d)
-    (subst (λ (w : Setting). Called (eqb (flag 1 h) 1) w (callFrom (ask .call) a s d) lent x after′) (k .setting)
-    (subst (λ (m : Bool). Called m (settingOf ask (sessionOf h)) (callFrom (ask .call) a s d) lent x after′) (k .strict) called))
+-- The code's limit is the one that the number says.
+limit-said : (limit : ℕ) → limitOf (limitFor limit) ≡ limitIn limit
+limit-said limit = go (leb limit 255)
+  where
+    go : (b : Bool) → limitOf (cond b (AtMost limit) Unlimited) ≡ cond b (some limit) none
+    go true = refl
+    go false = refl
 
-module _ {h : Header} {ask : Ask} (a s : Field) (d : List ℕ) {lent : Lent} {x : Answered} {after′ : List ℕ} (k : Asks h ask)
-    (called : Called (ask .strict) (settingOf ask (sessionOf h)) (callFrom (ask .call) a s d) lent x after′) where
-  pub asks-one : {b : Bool} {told told′ : List ℕ} → b ≡ true → Tells x told′ → Served b (asked h a s d lent) (lent .buffer) told 0 after′ told′
+-- A call as its fields ask it.
+meant : {h : Header} {ask : Ask} (limit : ℕ) (a s : Field) (d : List ℕ) {lent : Lent} {x : Answered} {after′ : List ℕ} → Asks h ask
+    → Called (ask .strict) (settingOf (limitedTo (limitFor limit) ask) (sessionOf h)) (callFrom (ask .call) a s d) lent x after′
+    → Called (eqb (flag 1 h) 1) (inLimit (limitIn limit) (rules.settingOf h)) (chosen h a s d) lent x after′
+meant {h} {ask} limit a s d {lent} {x} {after′} k called =
+    let set : settingOf (limitedTo (limitFor limit) ask) (sessionOf h) ≡ inLimit (limitIn limit) (rules.settingOf h) =
+    λ i. inLimit (limit-said limit i) (k .setting i)
+    in
+    subst (λ (c : Call). Called (eqb (flag 1 h) 1) (inLimit (limitIn limit) (rules.settingOf h)) c lent x after′) (k .call a s d)
+    (subst (λ (w : Setting). Called (eqb (flag 1 h) 1) w (callFrom (ask .call) a s d) lent x after′) set
+    (subst (λ (m : Bool). Called m (settingOf (limitedTo (limitFor limit) ask) (sessionOf h)) (callFrom (ask .call) a s d) lent x after′) (k .strict) called))
+
+module _ {h : Header} {ask : Ask} (limit : ℕ) (a s : Field) (d : List ℕ) {lent : Lent} {x : Answered} {after′ : List ℕ} (k : Asks h ask)
+    (called : Called (ask .strict) (settingOf (limitedTo (limitFor limit) ask) (sessionOf h)) (callFrom (ask .call) a s d) lent x after′) where
+  pub asks-one : {b : Bool} {told told′ : List ℕ} → b ≡ true → Tells x told′ → Served b (asked h limit a s d lent) (lent .buffer) told 0 after′ told′
   asks-one e tells =
-      let c = meant a s d k called in
+      let c = meant limit a s d k called in
       record {
         done = rw e;
         request = rw e (ap (λ (y : Result). y .buffer) (c .means));
@@ -56,16 +71,16 @@ module _ {h : Header} {ask : Ask} (a s : Field) (d : List ℕ) {lent : Lent} {x 
       }
 
 -- The slices of the argument bytes that the code hands on.
-pub asks-in-bytes : {h : Header} {ask : Ask} (l : List ℕ) {a s d : List ℕ} {lent : Lent} {x : Answered} {after′ told told′ : List ℕ} → asksOne h (length l) ≡ true
+pub asks-in-bytes : {h : Header} {ask : Ask} (limit : ℕ) (l : List ℕ) {a s d : List ℕ} {lent : Lent} {x : Answered} {after′ told told′ : List ℕ} → asksOne h limit (length l) ≡ true
     → a ≡ take (h .addressLength) l → s ≡ take (h .sizeLength) (drop (h .addressLength) l) → d ≡ take (length l) (dataIn h l)
-    → Asks h ask → Called (ask .strict) (settingOf ask (sessionOf h)) (callOf (ask .call) a s d) lent x after′
-    → Tells x told′ → InBytes h l lent told 0 after′ told′
-asks-in-bytes {h} {ask} l {a} {s} {d} {lent} {x} {after′} {told} {told′} e ea es ed k called tells =
+    → Asks h ask → Called (ask .strict) (settingOf (limitedTo (limitFor limit) ask) (sessionOf h)) (callOf (ask .call) a s d) lent x after′
+    → Tells x told′ → InBytes h limit l lent told 0 after′ told′
+asks-in-bytes {h} {ask} limit l {a} {s} {d} {lent} {x} {after′} {told} {told′} e ea es ed k called tells =
     let rest = ed ∙ take-all (length l) (dataIn h l) (simp length-drop (omega arith)) in
-    subst (λ (y : List ℕ). Served (asksOne h (length l)) (asked h (addressIn h l) (sizeIn h l) y lent) (lent .buffer) told 0 after′ told′) rest
-    (subst (λ (y : List ℕ). Served (asksOne h (length l)) (asked h (addressIn h l) (given y) d lent) (lent .buffer) told 0 after′ told′) es
-    (subst (λ (y : List ℕ). Served (asksOne h (length l)) (asked h (given y) (given s) d lent) (lent .buffer) told 0 after′ told′) ea
-    (asks-one (given a) (given s) d k called e tells)))
+    subst (λ (y : List ℕ). Served (asksOne h limit (length l)) (asked h limit (addressIn h l) (sizeIn h l) y lent) (lent .buffer) told 0 after′ told′) rest
+    (subst (λ (y : List ℕ). Served (asksOne h limit (length l)) (asked h limit (addressIn h l) (given y) d lent) (lent .buffer) told 0 after′ told′) es
+    (subst (λ (y : List ℕ). Served (asksOne h limit (length l)) (asked h limit (given y) (given s) d lent) (lent .buffer) told 0 after′ told′) ea
+    (asks-one limit (given a) (given s) d k called e tells)))
 
 -- At most one result, one request and one list of numbers fit.
 pub unique : {b : Bool} {x : Result} {before told : List ℕ} {r r′ : ℕ} {a a′ t t′ : List ℕ} → Served b x before told r a t → Served b x before told r′ a′ t′

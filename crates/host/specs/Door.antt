@@ -3,12 +3,17 @@ use Prim.Native.Nat.{ℕ, _+_}
 use mathlib.Core.Bool.{Bool, cond, _&&_, _||_}
 use mathlib.Core.Path.{_≡_}
 use mathlib.Core.List.{List}
+use mathlib.Core.Option.{Option, none, some}
 use lib.Dec.{leb, eqb}
 use lib.ListN.{length, take, drop}
 use Rattle.rules.specs.Calls.{Field, given, alfid}
 use Rattle.rules.specs.Client.{Result, call}
 use Rattle.rules.specs.Logs.{Header, flag, usesOf, fieldsOk, settingOf}
+use Rattle.rules.specs.Limited.{inLimit}
 use Rattle.rules.specs.Settings.{Lent}
+use Rattle.exchange.specs.declared.types.NoticeLimit.{NoticeLimit}
+use Rattle.exchange.specs.declared.types.NoticeLimit.the-variants.{Unlimited, AtMost}
+use Rattle.calls.specs.declared.Ask.{Ask}
 use Rattle.log_call.specs.Asking.{chosen}
 use Rattle.host.specs.Numbers.{numbersOf}
 
@@ -35,13 +40,23 @@ fields c flags value sub a s p2 star overall = record {
   overall = overall;
 }
 
--- Whether there is such a call, and n argument bytes are as many as the two lengths say, and more with flag 32 only.
-unfoldable pub fits : Header → ℕ → Bool
-fits h n = leb (h .call) 15 && leb (h .arguments) n && (eqb (flag 32 h) 1 || leb n (h .arguments))
+-- "a limit of K notices, 0..255, or none": none is the largest number of 16 bits.
+abbrev pub noLimit : ℕ
+noLimit = 65535
+
+abbrev pub isLimit : ℕ → Bool
+isLimit k = leb k 255 || eqb k noLimit
+
+abbrev pub limitIn : ℕ → Option ℕ
+limitIn k = cond (leb k 255) (some k) none
+
+-- Whether there is such a call and such a limit, and n argument bytes are as many as the two lengths say, and more with flag 32 only.
+unfoldable pub fits : Header → ℕ → ℕ → Bool
+fits h k n = leb (h .call) 15 && isLimit k && leb (h .arguments) n && (eqb (flag 32 h) 1 || leb n (h .arguments))
 
 -- Whether the fields and n argument bytes ask a call: the fields suit it by the log's rules.
-abbrev pub asksOne : Header → ℕ → Bool
-asksOne h n = fieldsOk h (usesOf (h .call)) && fits h n
+abbrev pub asksOne : Header → ℕ → ℕ → Bool
+asksOne h k n = fieldsOk h (usesOf (h .call)) && fits h k n
 
 -- "Calls 5, 6, 11 and 12 have an `alfid` form"
 abbrev pub hasAlfid : ℕ → Bool
@@ -57,9 +72,23 @@ sizeIn h l = given (take (h .sizeLength) (drop (h .addressLength) l))
 abbrev pub dataIn : Header → List ℕ → List ℕ
 dataIn h l = drop (h .addressLength + h .sizeLength) l
 
--- The call that the fields ask, with this address, size and data.
-abbrev pub asked : Header → Field → Field → List ℕ → Lent → Result
-asked h a s d l = call (eqb (flag 1 h) 1) (settingOf h) (chosen h a s d) l
+-- The call that the fields ask, with this limit, address, size and data.
+abbrev pub asked : Header → ℕ → Field → Field → List ℕ → Lent → Result
+asked h k a s d l = call (eqb (flag 1 h) 1) (inLimit (limitIn k) (settingOf h)) (chosen h a s d) l
+
+-- The code's ask, with this limit.
+abbrev pub limitFor : ℕ → NoticeLimit
+limitFor k = cond (leb k 255) (AtMost k) Unlimited
+
+abbrev pub limitedTo : NoticeLimit → Ask → Ask
+limitedTo limit ask = record {
+  call = ask .call;
+  quiet = ask .quiet;
+  strict = ask .strict;
+  server = ask .server;
+  overall = ask .overall;
+  limit = limit;
+}
 
 -- 0 where the numbers ask a call: its request stands in the buffer by document 01's rules, and the answer has its numbers. 1 where they ask none: nothing is touched.
 pub record Served (asks : Bool) (x : Result) (before told : List ℕ) (r : ℕ) (after′ told′ : List ℕ) : Type 0 where
@@ -68,10 +97,10 @@ pub record Served (asks : Bool) (x : Result) (before told : List ℕ) (r : ℕ) 
   pub answer : told′ ≡ cond asks (numbersOf x) told
 
 -- With argument bytes; in the `alfid` form with address and size as numbers v and u of widths w and w′, the wide setting, and data.
-abbrev pub InBytes : Header → List ℕ → Lent → List ℕ → ℕ → List ℕ → List ℕ → Type 0
-InBytes h l lent answer r request′ answer′ =
-    Served (asksOne h (length l)) (asked h (addressIn h l) (sizeIn h l) (dataIn h l) lent) (lent .buffer) answer r request′ answer′
+abbrev pub InBytes : Header → ℕ → List ℕ → Lent → List ℕ → ℕ → List ℕ → List ℕ → Type 0
+InBytes h k l lent answer r request′ answer′ =
+    Served (asksOne h k (length l)) (asked h k (addressIn h l) (sizeIn h l) (dataIn h l) lent) (lent .buffer) answer r request′ answer′
 
-abbrev pub InNumbers : Header → ℕ → ℕ → ℕ → ℕ → Bool → List ℕ → Lent → List ℕ → ℕ → List ℕ → List ℕ → Type 0
-InNumbers h v u w w′ wide d lent answer r request′ answer′ =
-    Served (hasAlfid (h .call) && asksOne h (length d)) (asked h (alfid v w wide) (alfid u w′ wide) d lent) (lent .buffer) answer r request′ answer′
+abbrev pub InNumbers : Header → ℕ → ℕ → ℕ → ℕ → ℕ → Bool → List ℕ → Lent → List ℕ → ℕ → List ℕ → List ℕ → Type 0
+InNumbers h k v u w w′ wide d lent answer r request′ answer′ =
+    Served (hasAlfid (h .call) && asksOne h k (length d)) (asked h k (alfid v w wide) (alfid u w′ wide) d lent) (lent .buffer) answer r request′ answer′

@@ -4,7 +4,7 @@ use mathlib.Core.List.{List, [], _∷_, _++_}
 use mathlib.Core.Option.{Option, none, some}
 use mathlib.Core.Path.{_≡_}
 use lib.ListN.{length}
-use Rattle.rules.specs.Answers.{Answer, Outcome, positive, suppressed, negative, timeout, disconnected, transport, fault, refused, deviation, deviation8, badLength, overflow}
+use Rattle.rules.specs.Answers.{Answer, Outcome, positive, suppressed, negative, timeout, pendingLimit, disconnected, transport, fault, refused, deviation, deviation8, badLength, overflow}
 use Rattle.rules.specs.Client.{Result}
 use Rattle.exchange.specs.Places.{Inside, InsideOutcome}
 use Rattle.calls.specs.Meaning.{resultOf}
@@ -19,7 +19,7 @@ upper (some n) = n
 abbrev pub plain : ℕ → ℕ → Values
 plain n detail = record { outcome = n; detail = detail; least = 0; most = 0; at = 0; len = 0 }
 
--- "Where an answer is an enum, a definition gives this paper's number and values for each case": the outcomes in the order of document 01's words, then the code, the
+-- "Where an answer is an enum, a definition gives this paper's number and values for each case": the outcomes in the order of document 01's words and behind them document 02's, then the code, the
 -- error's, the deviation's or the refusal's number, deviation 8's bounds, and the place of the data.
 abbrev pub valuesOf : Outcome → Values
 valuesOf (positive p) = record { outcome = 0; detail = 0; least = 0; most = 0; at = p .at; len = length (p .bytes) }
@@ -33,6 +33,7 @@ valuesOf (fault (deviation8 least most)) = record { outcome = 6; detail = 8; lea
 valuesOf (fault badLength) = plain 7 0
 valuesOf (fault overflow) = plain 8 0
 valuesOf (refused n) = plain 9 n
+valuesOf pendingLimit = plain 10 0
 
 -- The numbers of an answer: its outcome's, finishing time, events read, notices, where the data stands, where the reply stands.
 abbrev pub answerNumbers : Answer → List ℕ

@@ -1,5 +1,7 @@
 // The door for C and Rust: one function for all calls on numbers and byte slices, one for the `alfid` forms, and the number of a negative
 // code's name. include/bintrochis.h says it to C.
+use calls::Ask;
+use exchange::types::NoticeLimit;
 use exchange::types::Timing;
 use log_call::Fields;
 use log_call::ask_of;
@@ -10,7 +12,7 @@ ghost use mathlib.Core.Path.{_≡_};
 ghost use Rattle.rules.specs.Codes.{nameNumber};
 ghost use Rattle.logs.specs.Layout.{said};
 ghost use Rattle.calls.specs.Meaning.{lentOf};
-ghost use Rattle.host.specs.Door.{fields, fits, hasAlfid, InBytes, InNumbers};
+ghost use Rattle.host.specs.Door.{fields, isLimit, fits, limitFor, limitedTo, hasAlfid, InBytes, InNumbers};
 
 mod numbers;
 
@@ -49,12 +51,24 @@ fn fields(
     }
 }
 
-// Whether there is such a call, and n argument bytes are as many as its fields say.
-fn fits(h: Header, n: usize) -> bool
-    ensures { λ r. ⌜ r ≡ fits (said h) n ⌝ }
+// In place of a limit of notices: none.
+const NO_LIMIT: u16 = 65535;
+
+fn is_limit(limit: u16) -> bool
+    ensures { λ r. ⌜ r ≡ isLimit limit ⌝ }
+{
+    limit <= 255 || limit == NO_LIMIT
+}
+
+// Whether there is such a call and such a limit, and n argument bytes are as many as its fields say.
+fn fits(h: Header, limit: u16, n: usize) -> bool
+    ensures { λ r. ⌜ r ≡ fits (said h) limit n ⌝ }
 {
     let arguments = h.arguments as usize;
     if h.call > 15 {
+        return false;
+    }
+    if !is_limit(limit) {
         return false;
     }
     if n < arguments {
@@ -64,6 +78,32 @@ fn fits(h: Header, n: usize) -> bool
         return true;
     }
     n <= arguments
+}
+
+fn limit_for(limit: u16) -> NoticeLimit
+    ensures { λ r. ⌜ r ≡ limitFor limit ⌝ }
+{
+    if limit > 255 {
+        NoticeLimit::Unlimited
+    } else {
+        NoticeLimit::AtMost(limit as u8)
+    }
+}
+
+fn limited(ask: Ask, limit: u16) -> Ask
+    ensures { λ r. ⌜ r ≡ limitedTo (limitFor limit) ask ⌝ }
+{
+    let call = ask.call;
+    let overall = ask.overall;
+    let limit = limit_for(limit);
+    Ask {
+        call,
+        quiet: ask.quiet,
+        strict: ask.strict,
+        server: ask.server,
+        overall,
+        limit,
+    }
 }
 
 fn has_alfid(call: u8) -> bool
@@ -78,7 +118,7 @@ fn has_alfid(call: u8) -> bool
     }
 }
 
-// The numbers and flags are those of the log's header; `arguments` are address, size and data.
+// The numbers and flags are those of the log's header, beside them the limit of notices; `arguments` are address, size and data.
 #[no_mangle]
 pub extern "C" fn bintrochis_call(
     call: u8,
@@ -90,13 +130,14 @@ pub extern "C" fn bintrochis_call(
     p2: u32,
     p2_star: u32,
     overall: u32,
+    limit: u16,
     arguments: &[u8],
     request: &mut [u8],
     events: &[u8],
     replies: &[u8],
     answer: &mut [u64; 15],
 ) -> u8
-    ensures { λ r. ⌜ InBytes (fields call flags value sub «address_length» «size_length» p2 «p2_star» overall) (now (arguments .entry)) (lentOf (now (request .entry)) (now (events .entry)) (now (replies .entry))) (now (answer .entry)) r (now (request .exit)) (now (answer .exit)) ⌝ }
+    ensures { λ r. ⌜ InBytes (fields call flags value sub «address_length» «size_length» p2 «p2_star» overall) limit (now (arguments .entry)) (lentOf (now (request .entry)) (now (events .entry)) (now (replies .entry))) (now (answer .entry)) r (now (request .exit)) (now (answer .exit)) ⌝ }
 {
     let h = fields(
         call,
@@ -112,7 +153,7 @@ pub extern "C" fn bintrochis_call(
     let Fields::Ask(ask) = ask_of(h) else {
         return 1;
     };
-    if !fits(h, arguments.len()) {
+    if !fits(h, limit, arguments.len()) {
         return 1;
     }
     let at_size = address_length as usize;
@@ -120,6 +161,7 @@ pub extern "C" fn bintrochis_call(
     let address = part(arguments, 0, at_size);
     let size = part(arguments, at_size, size_length as usize);
     let data = part(arguments, at_data, arguments.len());
+    let ask = limited(ask, limit);
     let session = Timing { p2, star: p2_star };
     let x = sessions::in_session(session, ask, request, address, size, data, events, replies);
     *answer = numbers(x);
@@ -141,13 +183,14 @@ pub extern "C" fn bintrochis_call_alfid(
     p2: u32,
     p2_star: u32,
     overall: u32,
+    limit: u16,
     data: &[u8],
     request: &mut [u8],
     events: &[u8],
     replies: &[u8],
     answer: &mut [u64; 15],
 ) -> u8
-    ensures { λ r. ⌜ InNumbers (fields call flags value 0 0 0 p2 «p2_star» overall) address size «address_width» «size_width» wide (now («data» .entry)) (lentOf (now (request .entry)) (now (events .entry)) (now (replies .entry))) (now (answer .entry)) r (now (request .exit)) (now (answer .exit)) ⌝ }
+    ensures { λ r. ⌜ InNumbers (fields call flags value 0 0 0 p2 «p2_star» overall) limit address size «address_width» «size_width» wide (now («data» .entry)) (lentOf (now (request .entry)) (now (events .entry)) (now (replies .entry))) (now (answer .entry)) r (now (request .exit)) (now (answer .exit)) ⌝ }
 {
     let h = fields(call, flags, value, 0, 0, 0, p2, p2_star, overall);
     if !has_alfid(call) {
@@ -156,9 +199,10 @@ pub extern "C" fn bintrochis_call_alfid(
     let Fields::Ask(ask) = ask_of(h) else {
         return 1;
     };
-    if !fits(h, data.len()) {
+    if !fits(h, limit, data.len()) {
         return 1;
     }
+    let ask = limited(ask, limit);
     let session = Timing { p2, star: p2_star };
     let x = calls::run_alfid(
         session,

@@ -85,6 +85,7 @@ fn told(outcome: Outcome) -> Values
             Fault::BlockLengthOverflow => plain(8, 0),
         },
         Outcome::Refused(number) => plain(9, number as u64),
+        Outcome::PendingLimit => plain(10, 0),
     }
 }
 

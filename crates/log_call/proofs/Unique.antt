@@ -12,7 +12,9 @@ use Rattle.exchange.specs.declared.types.RequestTimeout.{RequestTimeout}
 use Rattle.exchange.specs.declared.types.RequestTimeout.the-variants.{Never, At}
 use Rattle.exchange.specs.declared.types.SubFunction.{SubFunction}
 use Rattle.exchange.specs.declared.types.SubFunction.the-variants as sub-function
-use Rattle.exchange.specs.Meaning.{subOf, overallOf}
+use Rattle.exchange.specs.declared.types.NoticeLimit.{NoticeLimit}
+use Rattle.exchange.specs.declared.types.NoticeLimit.the-variants.{Unlimited, AtMost}
+use Rattle.exchange.specs.Meaning.{subOf, overallOf, limitOf}
 use Rattle.requests.specs.declared.Call.{Call}
 use Rattle.requests.specs.declared.Call.the-variants as call
 use Rattle.requests.specs.declared.Data.{Data}
@@ -41,6 +43,10 @@ dataFrom (some d) = Present
 abbrev overallFrom : Option ℕ → RequestTimeout
 overallFrom none = Never
 overallFrom (some t) = At t
+
+abbrev limitFrom : Option ℕ → NoticeLimit
+limitFrom none = Unlimited
+limitFrom (some k) = AtMost k
 
 abbrev callBack : rules.Call → Call
 callBack (rules.request sid sub d) = call.Request sid (subFrom sub) (dataFrom d)
@@ -72,6 +78,10 @@ overall-back : (t : RequestTimeout) → overallFrom (overallOf t) ≡ t
 overall-back Never = refl
 overall-back (At t) = refl
 
+limit-back : (k : NoticeLimit) → limitFrom (limitOf k) ≡ k
+limit-back Unlimited = refl
+limit-back (AtMost k) = refl
+
 call-back : (k : Call) → callBack (callFrom k (given []) (given []) []) ≡ k
 call-back (call.Request sid sub p) = λ i. call.Request sid (sub-back sub i) (data-back p i)
 call-back (call.DiagnosticSessionControl sub) = refl
@@ -99,7 +109,8 @@ asks-unique {h} {r} {r′} k k′ =
     let quiets = ap (λ (w : Setting). w .quiet) made in
     let servers = ap (λ (w : Setting). w .serverTiming) made in
     let overalls = sym (overall-back (r .overall)) ∙ ap (λ (w : Setting). overallFrom (w .overall)) made ∙ overall-back (r′ .overall) in
-    λ i. record { call = calls i; quiet = quiets i; strict = stricts i; server = servers i; overall = overalls i }
+    let limits = sym (limit-back (r .limit)) ∙ ap (λ (w : Setting). limitFrom (w .limit)) made ∙ limit-back (r′ .limit) in
+    λ i. record { call = calls i; quiet = quiets i; strict = stricts i; server = servers i; overall = overalls i; limit = limits i }
 
 -- `ask_of`
 pub unique : (h : logs.Header) (r r′ : Fields) → AskedBy h r → AskedBy h r′ → r ≡ r′

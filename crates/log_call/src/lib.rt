@@ -1,5 +1,6 @@
 // The call that a log asks: what the fields of its header say, and how it is made.
 use calls::Ask;
+use exchange::types::NoticeLimit;
 use exchange::types::RequestTimeout;
 use exchange::types::SubFunction;
 use logs::header::Header;
@@ -105,6 +106,7 @@ fn ask_for(h: Header) -> Ask
         strict: flag(flags, 1),
         server: flag(flags, 2),
         overall,
+        limit: NoticeLimit::Unlimited,
     }
 }
 

@@ -10,14 +10,14 @@ use lib.ListN.{length, getD, take, drop, length-take, length-drop, length-map}
 use lib.Seq.{take-append-seam}
 use borrow.Author.Tests.{leb-true, leb-false, le-leb}
 use Rattle.rules.specs.After.{lengthBytes, serviceChecks, first, only, handed, checked, after}
-use Rattle.rules.specs.Answers.{Part, nowhere, behind, deviation, deviation8, badLength, overflow, Outcome, positive, suppressed, negative, timeout, disconnected, transport, fault, refused, ifPositive, Answer, answer, refusal}
+use Rattle.rules.specs.Answers.{Part, nowhere, behind, deviation, deviation8, badLength, overflow, Outcome, positive, suppressed, negative, timeout, pendingLimit, disconnected, transport, fault, refused, ifPositive, Answer, answer, refusal}
 use Rattle.rules.specs.Bytes.{u32At, every, isByte}
 use Rattle.rules.specs.Calls.{Call, request, session, reset, security, testerPresent, readMemory, writeMemory, readIdentifier, writeIdentifier, faultCount, routine, download, upload, transfer, transferExit, faultList, head, requestOf, suppresses}
 use Rattle.rules.specs.Client.{Result, asked, eventsIn, refuse, answered, call}
 use Rattle.rules.specs.Conversations.{Every}
 use Rattle.rules.specs.Events.{Entry, entriesFrom, entries, Event, reply, idle, ended, failed, timeOf, named, eventOf, upTo, sound, rising, withinLimits}
 use Rattle.rules.specs.Counts.{After}
-use Rattle.rules.specs.Exchange.{Asked, Step, pending, settles, look, Settled, State, start, silence, waits, hears, turn, settle, counted, under, exchange}
+use Rattle.rules.specs.Exchange.{Asked, Step, pending, settles, look, Settled, State, start, silence, waits, allows, notes, hears, turn, settle, counted, under, exchange}
 use Rattle.rules.specs.Lines.{ascii, word, detail, line}
 use Rattle.rules.specs.Logs as rules
 use Rattle.rules.specs.Logs.{headerOf, flag, layoutOk, lineOf, answerOf}
@@ -111,8 +111,12 @@ module _ (strict : Bool) (a : Asked) (p2 : a .timing .p2 ≤ most) (star : a .ti
   through : (s : State) (e : Event) (es : List Event) → timeOf e ≤ s .deadline → Through Stays s e es (turn strict a s e)
   through s (reply t p) es early = by-look (look strict a (s .hush) p)
     where
+      noted : (b : Bool) → Through Stays s (reply t p) es (notes a s t p b)
+      noted true = λ x on k h. grown (omega arith) (omega arith) (on (k .1) (omega (arith, k .0 .0)))
+      noted false = λ k h. record { time = omega (arith, k .0 .0); events-most = omega arith; notices-most = omega arith; reply-most = k .0 .1 }
+
       by-look : (z : Step) → Through Stays s (reply t p) es (hears a s t p z)
-      by-look pending = λ x on k h. grown (omega arith) (omega arith) (on (k .1) (omega (arith, k .0 .0)))
+      by-look pending = noted (allows (a .limit) (length (s .notices)))
       by-look (settles o) = λ k h. record { time = finishes (waits o && suppresses (a .sub)) t (k .0 .0); events-most = omega arith; notices-most = omega arith; reply-most = k .0 .1 }
   through s (idle t) es early = λ x on k h. grown (omega arith) (omega arith) (on (k .1) h)
   through s (ended t) es early = λ k h. record { time = omega (arith, k .0); events-most = omega arith; notices-most = omega arith; reply-most = omega arith }
@@ -196,6 +200,7 @@ checked-short strict c disconnected p h = omega arith
 checked-short strict c (transport n) p h = omega arith
 checked-short strict c (fault f) p h = omega arith
 checked-short strict c (refused n) p h = omega arith
+checked-short strict c pendingLimit p h = omega arith
 
 -- The longest word and detail are a deviation's.
 wide : (o : Outcome) (r : List ℕ) → length (given o) ≤ 4095 → length r ≤ 4095 → length (ascii (word o)) + shown (length (detail o r)) ≤ 8201
@@ -210,6 +215,7 @@ wide (fault (deviation8 least most)) r d h = omega arith
 wide (fault badLength) r d h = omega arith
 wide (fault overflow) r d h = omega (arith, shown-fits (length r) 8190 (omega arith) (omega arith))
 wide (refused n) r d h = omega arith
+wide pendingLimit r d h = omega arith
 
 line-short : (x : Answer) → Small x → length (given (x .outcome)) ≤ 4095 → length (line x) ≤ 8222
 line-short x s d =

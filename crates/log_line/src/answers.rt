@@ -50,5 +50,6 @@ pub fn put_answer(line: &mut [u8], answer: Answer, replies: &[u8]) -> Written
         Outcome::Refused(refusal) => {
             put_line(line, b"refused", time, events, notices, &[refusal], b"")
         }
+        Outcome::PendingLimit => put_line(line, b"pendinglimit", time, events, notices, b"", b""),
     }
 }

@@ -16,12 +16,16 @@ enum List {
     Memory,
     Alfid,
     Selections,
+    Limits,
 }
 
 // The longest data that is cut; a line has its digits, and is longer than any line of a log.
 const LONGEST_DATA: usize = 9000;
 
 const LONGEST_LINE: usize = 18048;
+
+// At the door, in place of a limit of notices: none.
+const NO_LIMIT: u16 = 65535;
 
 enum Byte {
     Next(u8),
@@ -152,6 +156,7 @@ fn alfid_line(case: &[u8], line: &mut [u8]) -> Written {
         50,
         5000,
         0,
+        NO_LIMIT,
         part(case, 37, case.len()),
         &mut request,
         b"",
@@ -204,6 +209,67 @@ fn select_line(case: &[u8], line: &mut [u8]) -> Written {
     )
 }
 
+// The line of the door's numbers, which name parts of the reply bytes.
+fn answer_line(answer: &[u64; 15], replies: &[u8], line: &mut [u8]) -> Written {
+    let outcome = answer[0];
+    let detail = answer[1];
+    let low = (detail % 256) as u8;
+    let time = answer[4];
+    let events = answer[5];
+    let notices = answer[6];
+    let data = part(replies, answer[7] as usize, answer[8] as usize);
+    let reply = part(replies, answer[9] as usize, answer[10] as usize);
+    match outcome {
+        0 => put_line(line, b"positive", time, events, notices, b"", data),
+        1 => put_line(line, b"suppressed", time, events, notices, b"", b""),
+        2 => put_line(line, b"negative", time, events, notices, &[low], b""),
+        3 => put_line(line, b"timeout", time, events, notices, b"", b""),
+        4 => put_line(line, b"disconnected", time, events, notices, b"", b""),
+        5 => {
+            let digits = [(detail / 256 % 256) as u8, low];
+            put_line(line, b"transport", time, events, notices, &digits, b"")
+        }
+        6 => put_line(line, b"deviation", time, events, notices, &[low], reply),
+        7 => put_line(line, b"length", time, events, notices, b"", b""),
+        8 => put_line(line, b"overflow", time, events, notices, b"", reply),
+        9 => put_line(line, b"refused", time, events, notices, &[low], b""),
+        10 => put_line(line, b"pendinglimit", time, events, notices, b"", b""),
+        _ => Written::NoRoom,
+    }
+}
+
+// A limit of notices, two bytes, and a log, through the door. The line: the log's under that limit.
+fn limit_line(case: &[u8], line: &mut [u8]) -> Written {
+    let log = part(case, 2, case.len());
+    let h = logs::reader::read_header(log);
+    let arguments = part(log, logs::header::HEADER_SIZE, h.arguments as usize);
+    let events = logs::layout::events_of(log, h);
+    let replies = logs::layout::replies_of(log, h);
+    let mut request = [0u8; 4095];
+    let mut answer = [0u64; 15];
+    let result = host::bintrochis_call(
+        h.call,
+        h.flags,
+        h.value,
+        h.sub,
+        h.address_length,
+        h.size_length,
+        h.p2,
+        h.star,
+        h.overall,
+        wire::u16_at(case, 0),
+        arguments,
+        &mut request,
+        events,
+        replies,
+        &mut answer,
+    );
+    if result != 0 {
+        return Written::NoRoom;
+    }
+    answer_line(&answer, replies, line)
+}
+
 fn line_of(list: List, case: &[u8], line: &mut [u8]) -> Written {
     match list {
         List::Logs => log_line::line_of(case, line),
@@ -212,6 +278,7 @@ fn line_of(list: List, case: &[u8], line: &mut [u8]) -> Written {
         List::Memory => memory_line(case, line),
         List::Alfid => alfid_line(case, line),
         List::Selections => select_line(case, line),
+        List::Limits => limit_line(case, line),
     }
 }
 
@@ -307,4 +374,7 @@ fn main() {
         b"selections",
         replay(List::Selections, selections, selection_lines),
     );
+    let limits = os::open_read(b"limits.bin");
+    let limit_lines = os::open_read(b"limits.expected");
+    say(b"limits", replay(List::Limits, limits, limit_lines));
 }

@@ -12,10 +12,10 @@ use borrow.Author.Tests.{le-leb, lt-leb}
 use Rattle.rules.specs.Answers.{Part, Fault, Outcome, positive, behind, lengthError}
 use Rattle.rules.specs.Calls.{head, suppresses}
 use Rattle.rules.specs.InOrder.{Check, judge}
-use Rattle.rules.specs.Counts.{isPending, isNotice, passes, noticesIn, After, Rising, UpToSettling, Counts}
+use Rattle.rules.specs.Counts.{isPending, isNotice, passes, noticesIn, noted, After, Rising, UpToSettling, Counts}
 use Rattle.rules.specs.Conversations.{Every}
 use Rattle.rules.specs.Events.{Event, reply, idle, ended, failed, timeOf, upTo}
-use Rattle.rules.specs.Exchange.{Asked, Step, pending, settles, wrong, negativeChecks, coded, positiveChecks, look, Settled, settled, State, start, waits, hears, turn, silence, settle, exchange}
+use Rattle.rules.specs.Exchange.{Asked, Step, pending, settles, wrong, negativeChecks, coded, positiveChecks, look, Settled, settled, State, start, waits, allows, notes, hears, turn, silence, settle, exchange}
 use Rattle.rules.proofs.Judging.{judge-ind}
 use Rattle.rules.proofs.Turns.{Through, settle-ind}
 
@@ -56,14 +56,15 @@ module _ (strict : Bool) (a : Asked) where
     read : List Event
     rest : List Event
     begins : es ≡ read ++ rest
-    settling : UpToSettling strict a read rest (x .time)
+    settling : UpToSettling strict a (length (s .notices)) read rest (x .time)
     in-time : (t : ℕ) → t ≤ s .deadline → Rising t es → (t ≤ x .time) × Every (λ e. timeOf e ≤ x .time) read
     times : x .read ≡ onto (map timeOf read) (s .read)
     notices : x .notices ≡ onto (map timeOf (noticesIn strict a read)) (s .notices)
 
-  extends : (e : Event) (read rest : List Event) (time : ℕ) → passes strict a e ≡ true → UpToSettling strict a read rest time → UpToSettling strict a (e ∷ read) rest time
-  extends e read rest time p (inl h) = inl (e ∷ h .0, h .1, ap (λ (l : List Event). e ∷ l) (h .2), (p, h .3), h .4)
-  extends e read rest time p (inr h) = inr ((p, h .0), h .1)
+  extends : (n : ℕ) (e : Event) (read rest : List Event) (time : ℕ) → passes strict a n e ≡ true → UpToSettling strict a (noted strict a n e) read rest time
+      → UpToSettling strict a n (e ∷ read) rest time
+  extends n e read rest time p (inl h) = inl (e ∷ h .0, h .1, ap (λ (l : List Event). e ∷ l) (h .2), (p, h .3), h .4)
+  extends n e read rest time p (inr h) = inr ((p, h .0), h .1)
 
   -- No event in time.
   silent : (s : State) (es : List Event) → After (s .deadline) es → Reading s es (silence s)
@@ -79,27 +80,32 @@ module _ (strict : Bool) (a : Asked) where
 
   module _ (s : State) (e : Event) (es : List Event) where
     -- The event that settles.
-    settled-by : (o : Outcome) (time : ℕ) (p : Part) → passes strict a e ≡ false → isNotice strict a e ≡ false → timeOf e ≤ time
-        → Reading s (e ∷ es) (settled o time (timeOf e ∷ s .read) (s .notices) p)
-    settled-by o time p stops n h = record {
+    once : (b : Bool) → cond b (timeOf e ∷ s .notices) (s .notices) ≡ onto (map timeOf (cond b (e ∷ []) [])) (s .notices)
+    once true = refl
+    once false = refl
+
+    settled-by : (o : Outcome) (time : ℕ) (notices : List ℕ) (p : Part) → passes strict a (length (s .notices)) e ≡ false
+        → notices ≡ cond (isNotice strict a e) (timeOf e ∷ s .notices) (s .notices) → timeOf e ≤ time
+        → Reading s (e ∷ es) (settled o time (timeOf e ∷ s .read) notices p)
+    settled-by o time notices p stops n h = record {
       read = e ∷ [];
       rest = es;
       begins = refl;
       settling = inl ([], e, refl, tt, stops);
       in-time = λ t k r. (omega arith, (h, tt));
       times = refl;
-      notices = rw n refl;
+      notices = n ∙ once (isNotice strict a e);
     }
 
     -- One event more in front: an idle, or a notice.
-    behind-one : (s′ : State) (x : Settled) → passes strict a e ≡ true → timeOf e ≤ s′ .deadline → s′ .read ≡ timeOf e ∷ s .read
+    behind-one : (s′ : State) (x : Settled) → passes strict a (length (s .notices)) e ≡ true → timeOf e ≤ s′ .deadline → s′ .read ≡ timeOf e ∷ s .read
         → ((l : List Event) → onto (map timeOf l) (s′ .notices) ≡ onto (map timeOf (cond (isNotice strict a e) (e ∷ l) l)) (s .notices))
-        → Reading s′ es x → Reading s (e ∷ es) x
-    behind-one s′ x p h t n r = record {
+        → length (s′ .notices) ≡ noted strict a (length (s .notices)) e → Reading s′ es x → Reading s (e ∷ es) x
+    behind-one s′ x p h t n m r = record {
       read = e ∷ r .read;
       rest = r .rest;
       begins = ap (λ (l : List Event). e ∷ l) (r .begins);
-      settling = extends e (r .read) (r .rest) (x .time) p (r .settling);
+      settling = extends (length (s .notices)) e (r .read) (r .rest) (x .time) p (subst (λ (k : ℕ). UpToSettling strict a k (r .read) (r .rest) (x .time)) m (r .settling));
       in-time = λ u k up. let i = r .in-time (timeOf e) h (up .1) in (omega (arith, i .0), i);
       times = r .times ∙ ap (onto (map timeOf (r .read))) t;
       notices = r .notices ∙ n (noticesIn strict a (r .read));
@@ -113,45 +119,55 @@ module _ (strict : Bool) (a : Asked) where
   through s (reply t p) es k = by-look (look strict a (s .hush) p) (hush-free strict a (s .hush) p)
     where
       by-look : (z : Step) → isPending z ≡ isPending (look strict a false p) → Through Reading s (reply t p) es (hears a s t p z)
-      by-look pending n = λ x. behind-one s (reply t p) es _ x (sym n) (omega arith) refl (λ l. rw (← n) refl)
-      by-look (settles o) n = settled-by s (reply t p) es o _ p (sym n) (sym n) (at-least (waits o && suppresses (a .sub)) t (a .timing .p2))
-  through s (idle t) es k = λ x. behind-one s (idle t) es _ x refl k refl (λ l. refl)
-  through s (ended t) es k = settled-by s (ended t) es _ t _ refl refl (omega arith)
-  through s (failed t n) es k = settled-by s (failed t n) es _ t _ refl refl (omega arith)
+      by-look pending n = heard (allows (a .limit) (length (s .notices))) refl
+        where
+          heard : (b : Bool) → allows (a .limit) (length (s .notices)) ≡ b → Through Reading s (reply t p) es (notes a s t p b)
+          heard true e = λ x. behind-one s (reply t p) es _ x (rw (← n, e) refl) (omega arith) refl (λ l. rw (← n) refl) (rw (← n) refl)
+          heard false e = settled-by s (reply t p) es _ t _ p (rw (← n, e) refl) (rw (← n) refl) (omega arith)
+      by-look (settles o) n = settled-by s (reply t p) es o _ _ p (rw (← n) refl) (rw (← n) refl) (at-least (waits o && suppresses (a .sub)) t (a .timing .p2))
+  through s (idle t) es k = λ x. behind-one s (idle t) es _ x refl k refl (λ l. refl) refl
+  through s (ended t) es k = settled-by s (ended t) es _ t _ _ refl refl (omega arith)
+  through s (failed t n) es k = settled-by s (failed t n) es _ t _ _ refl refl (omega arith)
 
   reading : (es : List Event) → Reading (start a) es (settle strict a es (start a))
   reading es = settle-ind strict a Reading silent through es (start a)
 
   -- The first event read settles and is the last; or it does not, and the others are read up to settling.
-  first-read : (e : Event) (read rest : List Event) (time : ℕ) → UpToSettling strict a (e ∷ read) rest time
-      → ((passes strict a e ≡ true) × UpToSettling strict a read rest time) ⊎ ((passes strict a e ≡ false) × (read ≡ []))
-  first-read e read rest time (inl ([], x, b, p, q)) = let same : e ≡ x = cc in inr (ap (passes strict a) same ∙ q, cc)
-  first-read e read rest time (inl (y ∷ before, x, b, p, q)) = let same : e ≡ y = cc in inl (ap (passes strict a) same ∙ p .0, inl (before, x, cc, p .1, q))
-  first-read e read rest time (inr h) = inl (h .0 .0, inr (h .0 .1, h .1))
+  first-read : (n : ℕ) (e : Event) (read rest : List Event) (time : ℕ) → UpToSettling strict a n (e ∷ read) rest time
+      → ((passes strict a n e ≡ true) × UpToSettling strict a (noted strict a n e) read rest time) ⊎ ((passes strict a n e ≡ false) × (read ≡ []))
+  first-read n e read rest time (inl ([], x, b, p, q)) = let same : e ≡ x = cc in inr (ap (passes strict a n) same ∙ q, cc)
+  first-read n e read rest time (inl (y ∷ before, x, b, p, q)) =
+      let same : e ≡ y = cc in
+      inl (ap (passes strict a n) same ∙ p .0, subst⁻¹ (λ (z : Event). UpToSettling strict a (noted strict a n z) read rest time) same (inl (before, x, cc, p .1, q)))
+  first-read n e read rest time (inr h) = inl (h .0 .0, inr (h .0 .1, h .1))
 
-  none-read : (e : Event) (rest : List Event) (time : ℕ) → UpToSettling strict a [] (e ∷ rest) time → timeOf e ≤ time → ⊥
-  none-read e rest time (inl ([], x, b, p, q)) h = mathlib.Core.List.cons≢nil (sym b)
-  none-read e rest time (inl (y ∷ before, x, b, p, q)) h = mathlib.Core.List.cons≢nil (sym b)
-  none-read e rest time (inr k) h = omega (arith, k .1)
+  none-read : (n : ℕ) (e : Event) (rest : List Event) (time : ℕ) → UpToSettling strict a n [] (e ∷ rest) time → timeOf e ≤ time → ⊥
+  none-read n e rest time (inl ([], x, b, p, q)) h = mathlib.Core.List.cons≢nil (sym b)
+  none-read n e rest time (inl (y ∷ before, x, b, p, q)) h = mathlib.Core.List.cons≢nil (sym b)
+  none-read n e rest time (inr k) h = omega (arith, k .1)
 
-  only : (read rest read′ rest′ : List Event) (time : ℕ) → UpToSettling strict a read rest time → UpToSettling strict a read′ rest′ time
+  abbrev More : ℕ → Event → List Event → List Event → ℕ → Type 0
+  More n e read rest time = UpToSettling strict a (noted strict a n e) read rest time
+
+  only : (n : ℕ) (read rest read′ rest′ : List Event) (time : ℕ) → UpToSettling strict a n read rest time → UpToSettling strict a n read′ rest′ time
       → Every (λ e. timeOf e ≤ time) read → Every (λ e. timeOf e ≤ time) read′ → read ++ rest ≡ read′ ++ rest′ → (read ≡ read′) × (rest ≡ rest′)
-  only [] rest [] rest′ time u u′ t t′ e = (refl, e)
-  only [] rest (x ∷ read′) rest′ time u u′ t t′ e = absurd (none-read x (read′ ++ rest′) time (subst (λ (l : List Event). UpToSettling strict a [] l time) e u) (t′ .0))
-  only (x ∷ read) rest [] rest′ time u u′ t t′ e = absurd (none-read x (read ++ rest) time (subst⁻¹ (λ (l : List Event). UpToSettling strict a [] l time) e u′) (t .0))
-  only (x ∷ read) rest (y ∷ read′) rest′ time u u′ t t′ e =
-      go (first-read x read rest time u) (first-read y read′ rest′ time u′) (λ v v′. only read rest read′ rest′ time v v′ (t .1) (t′ .1) cc)
+  only n [] rest [] rest′ time u u′ t t′ e = (refl, e)
+  only n [] rest (x ∷ read′) rest′ time u u′ t t′ e = absurd (none-read n x (read′ ++ rest′) time (subst (λ (l : List Event). UpToSettling strict a n [] l time) e u) (t′ .0))
+  only n (x ∷ read) rest [] rest′ time u u′ t t′ e = absurd (none-read n x (read ++ rest) time (subst⁻¹ (λ (l : List Event). UpToSettling strict a n [] l time) e u′) (t .0))
+  only n (x ∷ read) rest (y ∷ read′) rest′ time u u′ t t′ e =
+      go (first-read n x read rest time u) (first-read n y read′ rest′ time u′)
+      (λ v v′. only (noted strict a n x) read rest read′ rest′ time v (subst⁻¹ (λ (z : Event). UpToSettling strict a (noted strict a n z) read′ rest′ time) same v′) (t .1) (t′ .1) cc)
     where
       same : x ≡ y
       same = cc
 
-      go : ((passes strict a x ≡ true) × UpToSettling strict a read rest time) ⊎ ((passes strict a x ≡ false) × (read ≡ []))
-          → ((passes strict a y ≡ true) × UpToSettling strict a read′ rest′ time) ⊎ ((passes strict a y ≡ false) × (read′ ≡ []))
-          → (UpToSettling strict a read rest time → UpToSettling strict a read′ rest′ time → (read ≡ read′) × (rest ≡ rest′))
+      go : ((passes strict a n x ≡ true) × More n x read rest time) ⊎ ((passes strict a n x ≡ false) × (read ≡ []))
+          → ((passes strict a n y ≡ true) × More n y read′ rest′ time) ⊎ ((passes strict a n y ≡ false) × (read′ ≡ []))
+          → (More n x read rest time → More n y read′ rest′ time → (read ≡ read′) × (rest ≡ rest′))
           → (x ∷ read ≡ y ∷ read′) × (rest ≡ rest′)
       go (inl h) (inl k) more = let h′ = more (h .1) (k .1) in (ap₂ (λ (z : Event) (l : List Event). z ∷ l) same (h′ .0), h′ .1)
-      go (inl h) (inr k) more = absurd (true≢false (sym (h .0) ∙ ap (passes strict a) same ∙ k .0))
-      go (inr h) (inl k) more = absurd (true≢false (sym (k .0) ∙ ap (passes strict a) (sym same) ∙ h .0))
+      go (inl h) (inr k) more = absurd (true≢false (sym (h .0) ∙ ap (passes strict a n) same ∙ k .0))
+      go (inr h) (inl k) more = absurd (true≢false (sym (k .0) ∙ ap (passes strict a n) (sym same) ∙ h .0))
       go (inr h) (inr k) more = let p = h .1 in let q = k .1 in (cc, cc)
 
 pub counts : Counts
@@ -165,7 +181,7 @@ counts strict a es =
       read = r .read;
       rest = r .rest;
       reads = record { begins = r .begins; settling = r .settling; in-time = early };
-      no-others = λ up read′ rest′ h. only strict a read′ rest′ (r .read) (r .rest) (x .time) (h .settling) (r .settling) (h .in-time up) (early up) (sym (h .begins) ∙ r .begins);
+      no-others = λ up read′ rest′ h. only strict a 0 read′ rest′ (r .read) (r .rest) (x .time) (h .settling) (r .settling) (h .in-time up) (early up) (sym (h .begins) ∙ r .begins);
       events = rw (r .times) (omega (arith, onto-length (map timeOf (r .read)) [], length-map (r .read) timeOf));
       notices = rw (r .notices) (omega (arith, onto-length (map timeOf notices) [], length-map notices timeOf));
       within-overall = λ overall h. rw (le-leb (x .time) overall h);

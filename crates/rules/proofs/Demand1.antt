@@ -5,9 +5,9 @@ use mathlib.Core.Path.{_≡_, refl, subst, subst⁻¹}
 use mathlib.Core.List.{List, [], _∷_, _++_}
 use lib.Dec.{eqb}
 use lib.ListN.{getD}
-use mathlib.Core.Option.{none, some}
+use mathlib.Core.Option.{Option, none, some}
 use Rattle.rules.specs.After.{serviceChecks, handed, checked, after}
-use Rattle.rules.specs.Answers.{Part, Outcome, positive, suppressed, negative, timeout, disconnected, transport, fault, refused, ifPositive}
+use Rattle.rules.specs.Answers.{Part, Outcome, positive, suppressed, negative, timeout, pendingLimit, disconnected, transport, fault, refused, ifPositive}
 use Rattle.rules.specs.Calls.{Call, request, session, reset, security, testerPresent, readMemory, writeMemory, readIdentifier, writeIdentifier, faultCount, routine, download, upload, transfer, transferExit, faultList, Field, given, alfid, numbered, requestOf}
 use Rattle.rules.specs.InOrder.{Check}
 use Rattle.rules.specs.Client.{Result, asked, eventsIn, refuse, answered, call}
@@ -81,6 +81,7 @@ not-by-checks strict c p (positive q) h = judge-ind (λ (o : Outcome). ¬ Refuse
 not-by-checks strict c p suppressed h = h
 not-by-checks strict c p (negative n) h = h
 not-by-checks strict c p timeout h = h
+not-by-checks strict c p pendingLimit h = h
 not-by-checks strict c p disconnected h = h
 not-by-checks strict c p (transport n) h = h
 not-by-checks strict c p (fault f) h = h

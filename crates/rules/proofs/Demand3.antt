@@ -9,7 +9,7 @@ use mathlib.Core.Option.{Option, none, some}
 use lib.ListN.{length, getD}
 use borrow.Author.Tests.{leb-true, eqb-true, le-leb, eq-eqb, not-true}
 use Rattle.rules.specs.After.{serviceChecks, handed, checked, after}
-use Rattle.rules.specs.Answers.{Part, part, nowhere, behind, Fault, Outcome, positive, suppressed, negative, timeout, disconnected, transport, fault, refused, ifPositive, Answer, answer}
+use Rattle.rules.specs.Answers.{Part, part, nowhere, behind, Fault, Outcome, positive, suppressed, negative, timeout, pendingLimit, disconnected, transport, fault, refused, ifPositive, Answer, answer}
 use Rattle.rules.specs.Calls.{Call, sidOf, subOf, withBit7, positiveSid, head, requestOf}
 use Rattle.rules.specs.Client.{Result, asked, eventsIn, refuse, answered, call}
 use Rattle.rules.specs.Conversations.{Waiting, Paced, Closing, byNegative, byPositive, Closed, Silent, Conversation, Every}
@@ -18,11 +18,12 @@ use Rattle.rules.specs.Demand3.{Named, Refused, Answers, Demand3}
 use Rattle.rules.specs.Events.{Event, reply, timeOf, upTo}
 use Rattle.rules.specs.Exchange.{Settled, settles, echoing, positiveChecks, look, start, settle, counted, finish, exchange}
 use Rattle.rules.specs.Refusals.{arguments, refusals}
-use Rattle.rules.specs.Settings.{Setting, Lent, suppressing}
+use Rattle.rules.specs.Settings.{Setting, Lent, suppressing, Within}
 use Rattle.rules.proofs.Judging.{Pass, judge-pass, judge-inv, pass-append, append-pass}
 use Rattle.rules.proofs.Limits.{OfBytes, Sound, limits, every-mid}
 use Rattle.rules.proofs.Look.{sane, negative-form, negative-look, positive-look, coded-settles}
 use Rattle.rules.proofs.Rows.{Echo, row-in, Fits, row-out}
+use Rattle.rules.proofs.Within.{within-less, within-zero}
 use Rattle.rules.proofs.Settle.{still, reaches, hushes, Found, Hushed, found}
 
 -- The sub-function as sent has the caller's low seven bits.
@@ -71,6 +72,7 @@ still-answers (positive p) y h = tt
 still-answers suppressed y h = h
 still-answers (negative n) y h = h
 still-answers timeout y h = h
+still-answers pendingLimit y h = h
 still-answers disconnected y h = h
 still-answers (transport n) y h = h
 still-answers (fault f) y h = h
@@ -130,10 +132,11 @@ module _ (w : Setting) (c : Call) (is-named : Named c) (es : List Event) (rises 
   -- What a closing and what silence are answered, by the exchange alone.
   by-closing : {before : List Event} {times : List ℕ} (at : ℕ) (p : Part) (rest : List Event) (o : Outcome) → es ≡ before ++ (reply at p ∷ rest) → Waiting (sidOf c) before times
       → Paced (w .timing .p2) (w .timing .star) (times ++ (at ∷ [])) → look true (asked w c) (still times (suppressing w c)) p ≡ settles o
-      → counted ran ≡ answer o (finish (asked w c) o at) (0 + length before + 1) (0 + length times) p
-  by-closing at p rest o e v k h =
+      → Within (w .limit) (length times) → counted ran ≡ answer o (finish (asked w c) o at) (0 + length before + 1) (0 + length times) p
+  by-closing {times = times} at p rest o e v k h q =
       ap (λ (l : List Event). counted (settle true (asked w c) l (start (asked w c)))) e ∙
       reaches (asked w c) v 0 o at p rest (start (asked w c)) (subst (λ (l : List Event). Rising 0 l) e rises) k h
+      (within-less (w .limit) (0 + length times) (length times) (omega arith) q)
 
   by-silence : Hushed (asked w c) (start (asked w c)) es → counted ran ≡ answer suppressed (w .timing .p2) (0 + upTo (w .timing .p2) (map timeOf es)) 0 nowhere
   by-silence h = hushes (asked w c) es (start (asked w c)) 0 rises (h .0) (h .1)
@@ -141,7 +144,8 @@ module _ (w : Setting) (c : Call) (is-named : Named c) (es : List Event) (rises 
   closed : (f : Reached) → Closing w c (f .times) (ran .reply) (told .outcome)
       → finish (asked w c) (ran .outcome) (f .at) ≡ cond (suppressing w c) (max (f .at) (w .timing .p2)) (f .at) → Closed w c es told
   closed f k t =
-      let run = by-closing (f .at) (ran .reply) (f .rest) (ran .outcome) (f .begins) (f .waits) (f .paced) (f .closes) in
+      let patient = within-less (w .limit) (length (f .times)) (0 + length (f .times)) (omega arith) (f .patient) in
+      let run = by-closing (f .at) (ran .reply) (f .rest) (ran .outcome) (f .begins) (f .waits) (f .paced) (f .closes) patient in
       record {
         before = f .before;
         times = f .times;
@@ -154,6 +158,7 @@ module _ (w : Setting) (c : Call) (is-named : Named c) (es : List Event) (rises 
         time = ap (λ (y : Answer). y .time) run ∙ t;
         events = omega (arith, ap (λ (y : Answer). y .events) run);
         notices = omega (arith, ap (λ (y : Answer). y .notices) run);
+        patient = patient;
       }
 
   by-negative : (f : Reached) (code : ℕ) → code ≢ 0x78 → ran .reply .bytes ≡ 0x7f ∷ sidOf c ∷ code ∷ [] → negative code ≡ ran .outcome → Closed w c es told
@@ -210,7 +215,7 @@ module _ (w : Setting) (c : Call) (is-named : Named c) (es : List Event) (rises 
   -- An answer comes of a conversation.
   sound : Answers (told .outcome) → Conversation w c es told
   sound ok =
-      elim (found (asked w c) es (start (asked w c)) 0 rises (still-answers (ran .outcome) (checked true c (ran .reply)) ok)) [
+      elim (found (asked w c) es (start (asked w c)) 0 rises (within-zero (w .limit)) (still-answers (ran .outcome) (checked true c (ran .reply)) ok)) [
         | inl f ↦ inl (sound-closed ok f)
         | inr h ↦ inr (sound-silent h)
       ]
@@ -218,7 +223,7 @@ module _ (w : Setting) (c : Call) (is-named : Named c) (es : List Event) (rises 
   complete-closed : (x : Answer) → Closed w c es x → (told ≡ x) × Answers (x .outcome)
   complete-closed x f =
       let h = closing-heard w c (f .times) (x .reply) (f .closes) in
-      let run = by-closing (f .at) (x .reply) (f .rest) (h .heard) (f .begins) (f .waits) (f .paced) (h .looks) in
+      let run = by-closing (f .at) (x .reply) (f .rest) (h .heard) (f .begins) (f .waits) (f .paced) (h .looks) (f .patient) in
       let time = h .waits (f .at) ∙ sym (f .time) in
       let events : 0 + length (f .before) + 1 ≡ x .events = omega (arith, f .events) in
       let notices : 0 + length (f .times) ≡ x .notices = omega (arith, f .notices) in

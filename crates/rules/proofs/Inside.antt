@@ -8,12 +8,12 @@ use lib.Dec.{eqb}
 use lib.ListN.{length}
 use borrow.Author.Tests.{leb-true, ltb-true}
 use Rattle.rules.specs.After.{blockLength, serviceChecks, handed, first, numberOf}
-use Rattle.rules.specs.Answers.{Part, part, behind, nowhere, Outcome, positive, suppressed, negative, timeout, disconnected, transport, fault, refused}
+use Rattle.rules.specs.Answers.{Part, part, behind, nowhere, Outcome, positive, suppressed, negative, timeout, pendingLimit, disconnected, transport, fault, refused}
 use Rattle.rules.specs.Bytes.{value}
 use Rattle.rules.specs.Calls.{Call, request, session, reset, security, testerPresent, readMemory, writeMemory, readIdentifier, writeIdentifier, faultCount, routine, download, upload, transfer, transferExit, faultList, subOf, withBit7, head}
 use Rattle.rules.specs.Counts.{After}
 use Rattle.rules.specs.Events.{Event, reply, idle, ended, failed, timeOf}
-use Rattle.rules.specs.Exchange.{Asked, Step, pending, settles, echoing, look, Settled, State, start, hears, turn, silence, settle, exchange}
+use Rattle.rules.specs.Exchange.{Asked, Step, pending, settles, echoing, look, Settled, State, start, allows, notes, hears, turn, silence, settle, exchange}
 use Rattle.rules.proofs.Judging.{Pass, pass-append}
 use Rattle.rules.proofs.Look.{look-ind}
 use Rattle.rules.proofs.Turns.{Through, settle-ind, under-ind}
@@ -24,6 +24,7 @@ Headed sub p (positive d) = head sub ≤ length (p .bytes)
 Headed sub p suppressed = Unit {0}
 Headed sub p (negative n) = Unit {0}
 Headed sub p timeout = Unit {0}
+Headed sub p pendingLimit = Unit {0}
 Headed sub p disconnected = Unit {0}
 Headed sub p (transport n) = Unit {0}
 Headed sub p (fault f) = Unit {0}
@@ -57,7 +58,11 @@ module _ (strict : Bool) (a : Asked) where
   through s (reply t p) es k = by-look (look strict a (s .hush) p) (looked (s .hush) p)
     where
       by-look : (z : Step) → HeadedStep (a .sub) p z → Through Ends s (reply t p) es (hears a s t p z)
-      by-look pending h = λ x k. k
+      by-look pending h = noted (allows (a .limit) (length (s .notices)))
+        where
+          noted : (b : Bool) → Through Ends s (reply t p) es (notes a s t p b)
+          noted true = λ x k. k
+          noted false = tt
       by-look (settles o) h = h
   through s (idle t) es k = λ x h. h
   through s (ended t) es k = tt

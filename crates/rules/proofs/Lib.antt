@@ -1,6 +1,7 @@
 -- The theorems that specs/ states, and what they rest on.
 pub mod Judging
 pub mod Turns
+pub mod Within
 pub mod Look
 pub mod Opened
 pub mod Rows
@@ -21,6 +22,7 @@ pub mod FaultRows
 pub mod Layouts
 pub mod Unique
 pub mod Counts
+pub mod Limited
 pub mod Inside
 pub mod Unrefused
 pub mod Demand1

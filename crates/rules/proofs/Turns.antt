@@ -1,17 +1,18 @@
 -- The one induction over an exchange: what holds of silence, and passes through a turn, holds of what the exchange settles in.
-use Prim.Native.Nat.{ℕ, _≤_}
+use Prim.Native.Nat.{ℕ, _-_, _≤_}
 use mathlib.Core.Bool.{Bool, true, false, cond}
-use mathlib.Core.Path.{_≡_, refl, subst⁻¹}
+use mathlib.Core.Path.{_≡_, refl, sym, _∙_, ap, subst⁻¹}
 use mathlib.Core.List.{List, [], _∷_, _++_}
 use mathlib.Core.Option.{Option, none, some}
 use native.Mathlib.Omega.{arith}
-use lib.Dec.{leb}
+use lib.Dec.{leb, ltb}
 use lib.ListN.{length}
-use borrow.Author.Tests.{leb-true, leb-false, le-leb, lt-leb}
+use borrow.Author.Tests.{leb-true, leb-false, ltb-true, ltb-false, le-leb, lt-leb, lt-ltb, le-ltb}
 use Rattle.rules.specs.Answers.{Part, nowhere, Outcome, timeout, answer}
 use Rattle.rules.specs.Counts.{After}
 use Rattle.rules.specs.Events.{Event, reply, idle, ended, failed, timeOf, upTo}
-use Rattle.rules.specs.Exchange.{Asked, Step, pending, settles, look, Settled, settled, State, state, Turn, on, ends, hears, turn, silence, settle, counted, under}
+use Rattle.rules.specs.Exchange.{Asked, Step, pending, settles, look, Settled, settled, State, state, Turn, on, ends, allows, notes, hears, turn, silence, settle, counted, under}
+use Rattle.rules.specs.Limited.{less, spent}
 
 -- A predicate over the state, the events from there on and what they settle in passes through a turn.
 abbrev pub Through : (State → List Event → Settled → Type 0) → State → Event → List Event → Turn → Type 0
@@ -56,17 +57,44 @@ under-ind Q late s h (some overall) = go (leb (s .time) overall)
     go true = h
     go false = late
 
--- An event's turn does not look at what was read before it: from the state where nothing was, it is the same turn.
+-- The limit allows behind n notices what is left of it allows at first; a reply is judged without it.
+pub still-allows : (limit : Option ℕ) (n : ℕ) → allows limit n ≡ allows (less n limit) 0
+still-allows none n = refl
+still-allows (some k) n = go (ltb n k) refl
+  where
+    go : (b : Bool) → ltb n k ≡ b → ltb n k ≡ ltb 0 (k - n)
+    go true h = h ∙ sym (lt-ltb 0 (k - n) (let h′ = ltb-true n k h in omega arith))
+    go false h = h ∙ sym (le-ltb 0 (k - n) (let h′ = ltb-false n k h in omega arith))
+
+pub look-spent : (strict : Bool) (a : Asked) (n : ℕ) (hush : Bool) (p : Part) → look strict (spent n a) hush p ≡ look strict a hush p
+unfolding look
+look-spent strict a n hush p = refl
+
+-- An event's turn does not look at what was read before it: from the state where nothing was, with what is left of the limit, it is the same turn.
 abbrev pub raised : List ℕ → List ℕ → Turn → Turn
 raised read notices (on s) = on (state (s .hush) (s .deadline) (s .read ++ read) (s .notices ++ notices))
 raised read notices (ends x) = ends (settled (x .outcome) (x .time) (x .read ++ read) (x .notices ++ notices) (x .reply))
 
 pub turn-raised : (strict : Bool) (a : Asked) (s : State) (e : Event)
-    → turn strict a s e ≡ raised (s .read) (s .notices) (turn strict a (state (s .hush) (s .deadline) [] []) e)
-turn-raised strict a s (reply t p) = go (look strict a (s .hush) p)
+    → turn strict a s e ≡ raised (s .read) (s .notices) (turn strict (spent (length (s .notices)) a) (state (s .hush) (s .deadline) [] []) e)
+turn-raised strict a s (reply t p) =
+    go (look strict a (s .hush) p) ∙ ap (λ (z : Step). raised (s .read) (s .notices) (hears a′ first t p z)) (sym (look-spent strict a n (s .hush) p))
   where
-    go : (z : Step) → hears a s t p z ≡ raised (s .read) (s .notices) (hears a (state (s .hush) (s .deadline) [] []) t p z)
-    go pending = refl
+    n : ℕ
+    n = length (s .notices)
+
+    a′ : Asked
+    a′ = spent n a
+
+    first : State
+    first = state (s .hush) (s .deadline) [] []
+
+    noted : (b : Bool) → notes a s t p b ≡ raised (s .read) (s .notices) (notes a′ first t p b)
+    noted true = refl
+    noted false = refl
+
+    go : (z : Step) → hears a s t p z ≡ raised (s .read) (s .notices) (hears a′ first t p z)
+    go pending = ap (notes a s t p) (still-allows (a .limit) n) ∙ noted (allows (less n (a .limit)) 0)
     go (settles o) = refl
 turn-raised strict a s (idle t) = refl
 turn-raised strict a s (ended t) = refl
@@ -80,8 +108,12 @@ ReadsOne (ends x) = (length (x .read) ≡ 1) × (length (x .notices) ≤ 1)
 pub turn-reads-one : (strict : Bool) (a : Asked) (hush : Bool) (deadline : ℕ) (e : Event) → ReadsOne (turn strict a (state hush deadline [] []) e)
 turn-reads-one strict a hush deadline (reply t p) = go (look strict a hush p)
   where
+    noted : (b : Bool) → ReadsOne (notes a (state hush deadline [] []) t p b)
+    noted true = (refl, omega arith)
+    noted false = (refl, omega arith)
+
     go : (z : Step) → ReadsOne (hears a (state hush deadline [] []) t p z)
-    go pending = (refl, omega arith)
+    go pending = noted (allows (a .limit) 0)
     go (settles o) = (refl, omega arith)
 turn-reads-one strict a hush deadline (idle t) = (refl, omega arith)
 turn-reads-one strict a hush deadline (ended t) = (refl, omega arith)

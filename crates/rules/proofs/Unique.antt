@@ -1,7 +1,7 @@
 -- At most one conversation, and at least one of each kind, proved.
 use Prim.Native.Nat.{ℕ, _+_, _≤_, max}
 use native.Mathlib.Omega.{arith}
-use mathlib.Core.Bool.{cond}
+use mathlib.Core.Bool.{false≢true, cond}
 use mathlib.Core.Path.{_≡_, refl, sym, _∙_, ap, ap₂}
 use mathlib.Core.Logic.{_≢_, inl, inr}
 use mathlib.Core.List.{List, [], _∷_, _++_}
@@ -16,6 +16,7 @@ use Rattle.rules.specs.Exchange.{look, settle, exchange}
 use Rattle.rules.specs.Settings.{Setting, suppressing}
 use Rattle.rules.specs.Unique.{Unique, samples, Witnessed}
 use Rattle.rules.proofs.Rows.{row-out}
+use Rattle.rules.proofs.Within.{within-zero}
 
 -- Reading on to the closing: the first reply that is no notice.
 module _ (sid : ℕ) where
@@ -120,9 +121,10 @@ witnessed = record {
     time = refl;
     events = refl;
     notices = refl;
+    patient = within-zero (w .limit);
   };
   silences = λ w c e. record { asked = e; hush = tt; outcome = refl; time = refl; events = refl; notices = refl; reply = refl };
-  positives = λ w c head d row. record {
+  positives = λ w c head d row one. record {
     before = reply 0 (part 0 (0x7f ∷ sidOf c ∷ 0x78 ∷ [])) ∷ [];
     times = 0 ∷ [];
     at = 0;
@@ -134,6 +136,21 @@ witnessed = record {
     time = refl;
     events = refl;
     notices = refl;
+    patient = one;
+  };
+  at-once = λ w c head d row loud. record {
+    before = [];
+    times = [];
+    at = 0;
+    rest = [];
+    begins = refl;
+    waits = none;
+    paced = (omega arith, tt);
+    closes = byPositive head d row (λ e. absurd (false≢true (sym loud ∙ e))) refl;
+    time = rw loud refl;
+    events = refl;
+    notices = refl;
+    patient = within-zero (w .limit);
   };
   services = refl;
   answered = refl;

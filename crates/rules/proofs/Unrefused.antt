@@ -3,7 +3,7 @@ use Prim.Native.Nat.{ℕ}
 use mathlib.Core.Bool.{Bool}
 use mathlib.Core.List.{List}
 use mathlib.Core.Option.{Option}
-use Rattle.rules.specs.Answers.{Part, Outcome, positive, suppressed, negative, timeout, disconnected, transport, fault, refused}
+use Rattle.rules.specs.Answers.{Part, Outcome, positive, suppressed, negative, timeout, pendingLimit, disconnected, transport, fault, refused}
 use Rattle.rules.specs.Demand3.{Refused}
 use Rattle.rules.specs.Events.{Event}
 use Rattle.rules.specs.Exchange.{Asked, exchange}
@@ -14,6 +14,7 @@ unrefused sub p (positive d) h = λ r. r
 unrefused sub p suppressed h = λ r. r
 unrefused sub p (negative n) h = λ r. r
 unrefused sub p timeout h = λ r. r
+unrefused sub p pendingLimit h = λ r. r
 unrefused sub p disconnected h = λ r. r
 unrefused sub p (transport n) h = λ r. r
 unrefused sub p (fault f) h = λ r. r

@@ -36,6 +36,7 @@ pub data Outcome : Type 0 where
   suppressed : Outcome
   negative : ℕ → Outcome
   timeout : Outcome
+  pendingLimit : Outcome
   disconnected : Outcome
   transport : ℕ → Outcome
   fault : Fault → Outcome
@@ -47,6 +48,7 @@ ifPositive (positive p) f x = f p
 ifPositive suppressed f x = x
 ifPositive (negative n) f x = x
 ifPositive timeout f x = x
+ifPositive pendingLimit f x = x
 ifPositive disconnected f x = x
 ifPositive (transport n) f x = x
 ifPositive (fault e) f x = x

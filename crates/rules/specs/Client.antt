@@ -25,6 +25,7 @@ asked w c = record {
   sid = sidOf c;
   sub = withBit7 (w .quiet) (subOf c);
   timing = w .timing;
+  limit = w .limit;
 }
 
 abbrev pub eventsIn : Lent → List Event

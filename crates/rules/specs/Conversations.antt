@@ -9,7 +9,7 @@ use Rattle.rules.specs.Answers.{Part, part, nowhere, Outcome, positive, 
 use Rattle.rules.specs.Calls.{Call, sidOf}
 use Rattle.rules.specs.Events.{Event, reply, idle, ended, failed, timeOf, upTo}
 use Rattle.rules.specs.Positives.{Positive}
-use Rattle.rules.specs.Settings.{Setting, suppressing}
+use Rattle.rules.specs.Settings.{Setting, suppressing, Within}
 
 -- "zero or more exact notices 7F SID 78"; "Idle events may stand anywhere before the closing". The notices' times stand beside.
 pub data Waiting (sid : ℕ) : List Event → List ℕ → Type 0 where
@@ -29,7 +29,7 @@ pub data Closing (w : Setting) (c : Call) (notices : List ℕ) (p : Part) : Outc
   byPositive : (head d : List ℕ) → Positive c head d → (suppressing w c ≡ true → notices ≢ []) → p .bytes ≡ head ++ d
       → Closing w c notices p (positive (part (p .at + length head) d))
 
--- The events begin with idles and notices, then one closing. "finishing time is the closing's, or under suppression P2 if later."
+-- The events begin with idles and notices, with a limit at most K of them, then one closing. "finishing time is the closing's, or under suppression P2 if later."
 pub record Closed (w : Setting) (c : Call) (es : List Event) (x : Answer) : Type 0 where
   pub before : List Event
   pub times : List ℕ
@@ -42,6 +42,7 @@ pub record Closed (w : Setting) (c : Call) (es : List Event) (x : Answer) : Type
   pub time : x .time ≡ cond (suppressing w c) (max at (w .timing .p2)) at
   pub events : x .events ≡ length before + 1
   pub notices : x .notices ≡ length times
+  pub patient : Within (w .limit) (length times)
 
 abbrev pub IsIdle : Event → Type 0
 IsIdle (reply t p) = ⊥

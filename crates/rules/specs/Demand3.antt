@@ -1,9 +1,9 @@
--- Demand 3: a strict call of the fifteen named services that is not refused, with no overall timeout, "answers positive, negative or suppressed exactly when the events begin with a conversation that document 01 allows a rule-abiding controller for that request. Its answer, data and finishing time are those of that one conversation."
+-- Demand 3: a strict call of the fifteen named services that is not refused, with no overall timeout, "answers positive, negative or suppressed exactly when the events begin with a conversation that document 01 allows a rule-abiding controller for that request. Its answer, data and finishing time are those of that one conversation." "Demand 3 with a limit speaks of conversations of at most K notices": `patient` of `Closed`.
 use mathlib.Core.Bool.{true}
 use mathlib.Core.Path.{_≡_}
 use mathlib.Core.Logic.{_≢_, _↔_}
 use mathlib.Core.Option.{none}
-use Rattle.rules.specs.Answers.{Outcome, positive, suppressed, negative, timeout, disconnected, transport, fault, refused, Answer}
+use Rattle.rules.specs.Answers.{Outcome, positive, suppressed, negative, timeout, pendingLimit, disconnected, transport, fault, refused, Answer}
 use Rattle.rules.specs.Calls.{Call, numbered}
 use Rattle.rules.specs.Client.{eventsIn, call}
 use Rattle.rules.specs.Conversations.{Conversation}
@@ -18,6 +18,7 @@ Refused (positive p) = ⊥
 Refused suppressed = ⊥
 Refused (negative n) = ⊥
 Refused timeout = ⊥
+Refused pendingLimit = ⊥
 Refused disconnected = ⊥
 Refused (transport n) = ⊥
 Refused (fault f) = ⊥
@@ -29,6 +30,7 @@ Answers (positive p) = Unit {0}
 Answers suppressed = Unit {0}
 Answers (negative n) = Unit {0}
 Answers timeout = ⊥
+Answers pendingLimit = ⊥
 Answers disconnected = ⊥
 Answers (transport n) = ⊥
 Answers (fault f) = ⊥

@@ -57,7 +57,7 @@ lent ss = record { buffer = blank; events = eventBytes 0 ss; replies = joined ss
 
 -- P2 50 and P2* 5000, the overall timeout as given, server timing on.
 abbrev pub setting : Option ℕ → Bool → Setting
-setting overall quiet = record { timing = record { p2 = 50; star = 5000 }; overall = overall; serverTiming = true; quiet = quiet }
+setting overall quiet = record { timing = record { p2 = 50; star = 5000 }; overall = overall; limit = none; serverTiming = true; quiet = quiet }
 
 -- An answer in document 01's values: outcome, finishing time, events read, notices; and the number of calls 11 and 12.
 pub record Gives : Type 0 where

@@ -5,17 +5,18 @@ use mathlib.Core.List.{List, [], _∷_, _++_}
 use mathlib.Core.Option.{Option, none, some}
 use lib.Dec.{leb, ltb, eqb}
 use lib.ListN.{length, getD}
-use Rattle.rules.specs.Answers.{Part, nowhere, behind, Fault, deviation, lengthError, Outcome, positive, suppressed, negative, timeout, disconnected, transport, fault, refused, Answer, answer}
+use Rattle.rules.specs.Answers.{Part, nowhere, behind, Fault, deviation, lengthError, Outcome, positive, suppressed, negative, timeout, pendingLimit, disconnected, transport, fault, refused, Answer, answer}
 use Rattle.rules.specs.Calls.{suppresses, positiveSid, head}
 use Rattle.rules.specs.InOrder.{Check, unless, judge, inStrict}
 use Rattle.rules.specs.Settings.{Timing}
 use Rattle.rules.specs.Events.{Event, reply, idle, ended, failed, timeOf, upTo}
 
--- What the exchange knows of the request that was sent, and the session's timing.
+-- What the exchange knows of the request that was sent, the session's timing, and the limit of notices.
 pub record Asked : Type 0 where
   pub sid : ℕ
   pub sub : Option ℕ
   pub timing : Timing
+  pub limit : Option ℕ
 
 -- What a reply does: it asks for patience, or settles the exchange.
 pub data Step : Type 0 where
@@ -89,6 +90,7 @@ waits (positive p) = true
 waits (negative c) = true
 waits suppressed = false
 waits timeout = false
+waits pendingLimit = false
 waits disconnected = false
 waits (transport n) = false
 waits (fault f) = false
@@ -102,9 +104,19 @@ pub data Turn : Type 0 where
   on : State → Turn
   ends : Settled → Turn
 
--- "deadline becomes this event's time + P2*, read on"; or the reply settles.
+-- "a limit of K notices, 0..255, or none": whether one more is allowed behind n.
+abbrev pub allows : Option ℕ → ℕ → Bool
+allows none n = true
+allows (some k) n = ltb n k
+
+-- "deadline becomes this event's time + P2*, read on". "The notice after the K-th ends the call with the new outcome `pendinglimit` at its arrival time".
+abbrev pub notes : Asked → State → ℕ → Part → Bool → Turn
+notes a s t p true = on (state false (t + a .timing .star) (t ∷ s .read) (t ∷ s .notices))
+notes a s t p false = ends (settled pendingLimit t (t ∷ s .read) (t ∷ s .notices) p)
+
+-- A notice, or the reply settles.
 abbrev pub hears : Asked → State → ℕ → Part → Step → Turn
-hears a s t p pending = on (state false (t + a .timing .star) (t ∷ s .read) (t ∷ s .notices))
+hears a s t p pending = notes a s t p (allows (a .limit) (length (s .notices)))
 hears a s t p (settles o) = ends (settled o (finish a o t) (t ∷ s .read) (s .notices) p)
 
 -- "Idle changes nothing. End gives disconnected, error gives transport."

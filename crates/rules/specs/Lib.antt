@@ -1,4 +1,4 @@
--- Document 01 as definitions, a file for each of its sections, in its order; beside them ISO 14229-1 and the theorems' statements.
+-- Document 01 as definitions, a file for each of its sections, in its order; beside them request Nine (Exchange, Limited), ISO 14229-1 and the theorems' statements.
 pub mod Bytes
 pub mod InOrder
 pub mod Answers
@@ -24,6 +24,7 @@ pub mod Unique
 pub mod Counts
 pub mod Readings
 pub mod Pins
+pub mod Limited
 pub mod AnswerRows
 pub mod RequestRows
 pub mod RefusalRows

@@ -6,7 +6,7 @@ use Prim.Native.String as Text
 use mathlib.Core.Bool.{cond}
 use mathlib.Core.List.{List, [], _∷_, _++_}
 use lib.Dec.{ltb}
-use Rattle.rules.specs.Answers.{deviation, deviation8, badLength, overflow, Outcome, positive, suppressed, negative, timeout, disconnected, transport, fault, refused, Answer}
+use Rattle.rules.specs.Answers.{deviation, deviation8, badLength, overflow, Outcome, positive, suppressed, negative, timeout, pendingLimit, disconnected, transport, fault, refused, Answer}
 use Rattle.rules.specs.Bytes.{two}
 
 abbrev pub ascii : String → List ℕ
@@ -35,6 +35,7 @@ word (positive p) = "positive"
 word suppressed = "suppressed"
 word (negative c) = "negative"
 word timeout = "timeout"
+word pendingLimit = "pendinglimit"
 word disconnected = "disconnected"
 word (transport n) = "transport"
 word (fault (deviation n)) = "deviation"
@@ -49,6 +50,7 @@ detail (positive p) reply = p .bytes
 detail suppressed reply = []
 detail (negative c) reply = c ∷ []
 detail timeout reply = []
+detail pendingLimit reply = []
 detail disconnected reply = []
 detail (transport n) reply = two n
 detail (fault (deviation n)) reply = n ∷ reply

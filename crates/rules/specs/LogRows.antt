@@ -46,7 +46,7 @@ abbrev pub logRow : List ℕ → Option ℕ → Bool → Bool → Call → Strin
 logRow l overall server quiet c line =
     record {
       log = l;
-      setting = record { timing = record { p2 = 50; star = 5000 }; overall = overall; serverTiming = server; quiet = quiet };
+      setting = record { timing = record { p2 = 50; star = 5000 }; overall = overall; limit = none; serverTiming = server; quiet = quiet };
       call = c;
       line = line;
     }

@@ -231,6 +231,7 @@ abbrev pub settingOf : Header → Setting
 settingOf h = record {
   timing = record { p2 = h .p2; star = h .star };
   overall = some? (eqb (flag 8 h) 1) (h .overall);
+  limit = none;
   serverTiming = eqb (flag 2 h) 1;
   quiet = eqb (flag 4 h) 1;
 }

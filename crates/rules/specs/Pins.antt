@@ -18,7 +18,7 @@ memoryOfTwo = readMemory (given (0x20 ∷ [])) (given (0x02 ∷ []))
 
 -- P2* shorter than P2.
 abbrev pub hasty : Setting
-hasty = record { timing = record { p2 = 100; star = 10 }; overall = none; serverTiming = true; quiet = false }
+hasty = record { timing = record { p2 = 100; star = 10 }; overall = none; limit = none; serverTiming = true; quiet = false }
 
 abbrev pub Hold : List Example → Type 0
 Hold rows = map runs rows ≡ map tells rows

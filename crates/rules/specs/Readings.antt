@@ -6,7 +6,7 @@ use mathlib.Core.Path.{_≡_}
 use mathlib.Core.List.{List, [], _∷_, _++_, map}
 use mathlib.Core.Option.{none, some}
 use lib.ListN.{replicate}
-use Rattle.rules.specs.Answers.{part, nowhere, Fault, deviation, deviation8, badLength, overflow, positive, suppressed, negative, timeout, disconnected, transport, fault, refused, Answer, answer, refusal}
+use Rattle.rules.specs.Answers.{Part, part, nowhere, Fault, deviation, deviation8, badLength, overflow, positive, suppressed, negative, timeout, pendingLimit, disconnected, transport, fault, refused, Answer, answer, refusal}
 use Rattle.rules.specs.Calls.{Call, session, reset, security, readMemory, writeMemory, readIdentifier, writeIdentifier, faultCount, routine, download, transfer, faultList, given, alfid}
 use Rattle.rules.specs.Client.{call}
 use Rattle.rules.specs.Examples.{says, lent, setting, usual, gives, Example, whole, row, runs, tells, one, load}
@@ -83,7 +83,7 @@ meetings =
 
 -- The session's timing afterwards.
 abbrev pub adopts : Bool → Bool → Call → List ℕ → ℕ × ℕ → Bool × Setting × Call × List ℕ × (ℕ × ℕ)
-adopts strict server c r t = (strict, record { timing = usual .timing; overall = none; serverTiming = server; quiet = false }, c, r, t)
+adopts strict server c r t = (strict, record { timing = usual .timing; overall = none; limit = none; serverTiming = server; quiet = false }, c, r, t)
 
 abbrev pub timings : List (Bool × Setting × Call × List ℕ × (ℕ × ℕ))
 timings =
@@ -103,6 +103,7 @@ printed =
     (answer suppressed 50 0 0 nowhere, "suppressed 50 0 0 -\n") ∷
     (answer (negative 0x31) 10 1 0 (part 0 (0x7f ∷ 0x22 ∷ 0x31 ∷ [])), "negative 10 1 0 31\n") ∷
     (answer timeout 900 2 1 nowhere, "timeout 900 2 1 -\n") ∷
+    (answer pendingLimit 10 1 1 (part 0 (0x7f ∷ 0x22 ∷ 0x78 ∷ [])), "pendinglimit 10 1 1 -\n") ∷
     (answer disconnected 60 3 2 nowhere, "disconnected 60 3 2 -\n") ∷
     (answer (transport 0x68) 25 1 0 nowhere, "transport 25 1 0 0068\n") ∷
     (answer (fault (deviation 10)) 10 1 0 (part 0 (0x74 ∷ 0x01 ∷ [])), "deviation 10 1 0 0a7401\n") ∷

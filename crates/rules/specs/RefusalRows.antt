@@ -147,7 +147,7 @@ fits r = call true usual (r .call) (record { buffer = replicate (r .room) 0xee; 
 
 -- A timing that lets a time above 65,535 be in time.
 abbrev pub slow : Setting
-slow = record { timing = record { p2 = 100000; star = 5000000000 }; overall = none; serverTiming = true; quiet = false }
+slow = record { timing = record { p2 = 100000; star = 5000000000 }; overall = none; limit = none; serverTiming = true; quiet = false }
 
 abbrev pub broken : Said → Example
 broken s = whole true usual (session 0x03) (s ∷ []) (gives (refused 10) 0 0 0 0) (50, 5000) []

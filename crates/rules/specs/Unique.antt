@@ -1,6 +1,6 @@
 -- Events begin with at most one conversation; and every service has one of each ending, so that nothing above is true for want of cases.
 use Prim.Native.Nat.{ℕ, _+_, max}
-use mathlib.Core.Bool.{true, cond}
+use mathlib.Core.Bool.{true, false, cond}
 use mathlib.Core.Path.{_≡_}
 use mathlib.Core.List.{List, [], _∷_, _++_, map}
 use lib.ListN.{length}
@@ -12,7 +12,7 @@ use Rattle.rules.specs.Conversations.{Closed, Silent, Conversation}
 use Rattle.rules.specs.Events.{Event, reply}
 use Rattle.rules.specs.Examples.{says, lent, usual, gives, told}
 use Rattle.rules.specs.Positives.{Positive}
-use Rattle.rules.specs.Settings.{Setting, suppressing}
+use Rattle.rules.specs.Settings.{Setting, suppressing, Within}
 use mathlib.Core.Option.{none, some}
 
 -- Two closed conversations over the same events stand at the same places; none is also silent; one answer fits.
@@ -49,16 +49,18 @@ samples =
     sample (transferExit none) (0x77 ∷ []) [] ∷
     sample (faultList 0x08) (0x59 ∷ 0x02 ∷ []) (0xff ∷ 0x12 ∷ 0x34 ∷ 0x56 ∷ 0x08 ∷ []) ∷ []
 
--- Every call can be closed by a refusal and, where it is suppressed, by silence; every positive of the table closes a conversation, behind a notice also under suppression. Each service has such a positive, and its call is answered by it.
+-- Every call can be closed by a refusal and, where it is suppressed, by silence; every positive of the table closes a conversation, behind a notice (where the limit allows one) also under suppression. Each service has such a positive, and its call is answered by it.
 pub record Witnessed : Type 0 where
   pub negatives : (w : Setting) (c : Call) →
       let p = part 0 (0x7f ∷ sidOf c ∷ 0x10 ∷ []) in
       Closed w c (reply 0 p ∷ []) (answer (negative 0x10) (cond (suppressing w c) (max 0 (w .timing .p2)) 0) 1 0 p)
   pub silences : (w : Setting) (c : Call) → suppressing w c ≡ true → Silent w c [] (answer suppressed (w .timing .p2) 0 0 nowhere)
-  pub positives : (w : Setting) (c : Call) (head d : List ℕ) → Positive c head d →
+  pub positives : (w : Setting) (c : Call) (head d : List ℕ) → Positive c head d → Within (w .limit) 1 →
       let p = part 3 (head ++ d) in
       Closed w c (reply 0 (part 0 (0x7f ∷ sidOf c ∷ 0x78 ∷ [])) ∷ reply 0 p ∷ [])
       (answer (positive (part (p .at + length head) d)) (cond (suppressing w c) (max 0 (w .timing .p2)) 0) 2 1 p)
+  pub at-once : (w : Setting) (c : Call) (head d : List ℕ) → Positive c head d → suppressing w c ≡ false →
+      let p = part 3 (head ++ d) in Closed w c (reply 0 p ∷ []) (answer (positive (part (p .at + length head) d)) 0 1 0 p)
   pub services : map (λ s. numbered (s .call)) samples ≡ 1 ∷ 2 ∷ 3 ∷ 4 ∷ 5 ∷ 6 ∷ 7 ∷ 8 ∷ 9 ∷ 10 ∷ 11 ∷ 12 ∷ 13 ∷ 14 ∷ 15 ∷ []
   pub answered : map (λ s. told (call true usual (s .call) (lent (says 10 (s .head ++ s .payload) ∷ [])))) samples
       ≡ map (λ s. gives (positive (part (length (s .head)) (s .payload))) 10 1 0 (numberOf (s .call) (positive (part 0 (s .payload))))) samples

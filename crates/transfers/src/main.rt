@@ -2,6 +2,7 @@
 use blocks::Cut;
 use calls::Answered;
 use calls::Ask;
+use exchange::types::NoticeLimit;
 use exchange::types::RequestTimeout;
 use exchange::types::Timing;
 use libc::STDOUT_FILENO;
@@ -66,6 +67,7 @@ fn identify() {
         strict: true,
         server: false,
         overall: RequestTimeout::Never,
+        limit: NoticeLimit::Unlimited,
     };
     let mut request = [0u8; 64];
     let events = [0, 0, 0, 8, 0, 0, 0, 0, 0, 8];

@@ -23,6 +23,7 @@ askOf u quiet k = record {
   strict = u .config .strict;
   server = u .config .«use_server_timing»;
   overall = u .config .«request_timeout»;
+  limit = u .config .«notice_limit»;
 }
 
 -- The client makes this call over what is lent, and is answered so.

@@ -1,5 +1,6 @@
--- The Rust's defaults: P2 50, P2* 5000, no overall timeout, server timing on, strict on. The wide setting, which it does not have, is off.
+-- The Rust's defaults: P2 50, P2* 5000, no overall timeout, server timing on, strict on. The wide setting and the limit of notices, which it does not have, are off.
 use mathlib.Core.Bool.{true, false}
+use Rattle.exchange.specs.declared.types.NoticeLimit.the-variants.{Unlimited}
 use Rattle.exchange.specs.declared.types.RequestTimeout.the-variants.{Never}
 use Rattle.uds.specs.declared.config.UDSConfig.{UDSConfig}
 
@@ -11,4 +12,5 @@ defaults = record {
   «use_server_timing» = true;
   strict = true;
   wide = false;
+  «notice_limit» = Unlimited;
 }

@@ -1,4 +1,5 @@
 // How a client makes its calls.
+use exchange::types::NoticeLimit;
 use exchange::types::RequestTimeout;
 ghost use mathlib.Core.Path.{_≡_};
 ghost use Rattle.uds.specs.Defaults.{defaults};
@@ -17,10 +18,12 @@ pub struct UDSConfig {
     pub strict: bool,
     // Not the Rust's: the `alfid` forms take widths of 1 to 15 bytes, padded with zeros on the left, and not only of 1 to 8.
     pub wide: bool,
+    // Not the Rust's: how many notices (NRC 0x78) a call bears; the one after ends it with `PendingLimit`.
+    pub notice_limit: NoticeLimit,
 }
 
 impl UDSConfig {
-    // P2 50 ms, P2* five seconds, no overall limit, server timing and strict on, wide off.
+    // P2 50 ms, P2* five seconds, no overall limit, server timing and strict on, wide off, no limit of notices.
     pub fn default() -> UDSConfig
         ensures { λ r. ⌜ r ≡ defaults ⌝ }
     {
@@ -31,6 +34,7 @@ impl UDSConfig {
             use_server_timing: true,
             strict: true,
             wide: false,
+            notice_limit: NoticeLimit::Unlimited,
         }
     }
 }

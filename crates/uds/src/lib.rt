@@ -62,12 +62,14 @@ impl UDSClient {
     {
         let config = self.config;
         let overall = config.request_timeout;
+        let limit = config.notice_limit;
         Ask {
             call,
             quiet,
             strict: config.strict,
             server: config.use_server_timing,
             overall,
+            limit,
         }
     }
 

@@ -149,7 +149,7 @@ pub fn has_counterpart(case: &Case) -> bool {
 }
 
 /// What is right: what the original does, and where it has no counterpart what document 01 says.
-fn judged(original: &mut Original, case: &Case, run: Run) -> Observed {
+pub fn judged(original: &mut Original, case: &Case, run: Run) -> Observed {
     if has_counterpart(case) {
         run(original, case)
     } else {
@@ -158,7 +158,7 @@ fn judged(original: &mut Original, case: &Case, run: Run) -> Observed {
 }
 
 /// How many mismatches are reduced and printed; the rest are counted.
-const SHOWN: usize = 10;
+pub const SHOWN: usize = 10;
 
 /// Runs the original and a side on the cases of generators.
 fn compare_on(generators: &[Generator], seed: u64, side: Side, run: Run) -> Tally {
@@ -194,14 +194,14 @@ fn compare_on(generators: &[Generator], seed: u64, side: Side, run: Run) -> Tall
     tally
 }
 
-/// Prints a case and what both sides did with it.
-fn show(case: &Case, original: &Observed, other: &Observed) {
+/// Prints a case, what is right for it and what the other side did with it.
+pub fn show(case: &Case, right: &Observed, other: &Observed) {
     println!("  {case:x?}");
     if let Some(log) = log::write(case) {
         let hex: String = log.iter().map(|byte| format!("{byte:02x}")).collect();
         println!("  log      {hex}");
     }
-    println!("  original {original:x?}");
+    println!("  right    {right:x?}");
     println!("  other    {other:x?}");
 }
 
@@ -231,6 +231,7 @@ fn smaller(case: &Case) -> Vec<Case> {
     }
     with(&mut pack);
     with(&mut |case| case.setting.overall = None);
+    with(&mut |case| case.setting.limit = None);
     with(&mut |case| case.setting.quiet = false);
     with(&mut |case| case.setting.server_timing = false);
     with(&mut |case| case.setting.p2 /= 2);

@@ -1,5 +1,5 @@
-//! Document 01's rules, and document 02's for call 15, as a small direct program without async, written from these with
-//! the original in mind: a second opinion, and the baseline of the measurements.
+//! Document 01's rules, and document 02's for call 15 and for the limit of notices, as a small direct program without async,
+//! written from these with the original in mind: a second opinion, and the baseline of the measurements.
 
 use crate::model::{
     Bounds, Call, Case, Data, Event, Memory, Observed, Outcome, Place, END, ERROR, IDLE, REPLY,
@@ -38,6 +38,7 @@ pub enum Verdict {
     Length,
     Overflow,
     Refused(u8),
+    PendingLimit,
 }
 
 /// "A length error is deviation 8 (minimum, maximum) in strict, the plain length outcome in lenient."
@@ -304,6 +305,11 @@ fn exchange(case: &Case) -> Answer {
                 let Some(verdict) = judge(case, hush, bytes) else {
                     notices += 1;
                     notices_to_overall += (time <= overall) as usize;
+                    if setting.limit.is_some_and(|most| notices > most as usize) {
+                        reply = place;
+                        settled = Some((Verdict::PendingLimit, time));
+                        break;
+                    }
                     hush = false;
                     deadline = time + u64::from(setting.p2_star);
                     continue;
@@ -555,6 +561,7 @@ pub fn run(case: &Case) -> Observed {
         Verdict::Length => Outcome::Length,
         Verdict::Overflow => Outcome::Overflow { reply: reply() },
         Verdict::Refused(number) => Outcome::Refused(number),
+        Verdict::PendingLimit => Outcome::PendingLimit { reply: reply() },
     };
     let loading = matches!(case.call, Call::Download { .. } | Call::Upload { .. });
     let positive = answer.verdict == Verdict::Positive;

@@ -2,6 +2,7 @@
 //! Faults in a copy of the original are `oracle/faults`'.
 
 use crate::compare::{differences, has_counterpart, Side};
+use crate::limited;
 use crate::model::{Call, Case, Memory, Observed, ERROR, IDLE, REPLY};
 use crate::original::Original;
 use crate::sample;
@@ -139,6 +140,18 @@ const FAULTS: [Fault; 18] = [
     },
 ];
 
+/// Faults in a limit of notices, which the cases of `limited` must notice.
+const LIMIT_FAULTS: [Fault; 2] = [
+    Fault {
+        name: "the K-th notice ends a call with a limit of K",
+        put_in: |case| case.setting.limit = case.setting.limit.map(|most| most.saturating_sub(1)),
+    },
+    Fault {
+        name: "a limit in strict only",
+        put_in: |case| case.setting.limit = case.setting.limit.filter(|_| case.setting.strict),
+    },
+];
+
 /// The cases with what the original does.
 fn judged_cases(seed: u64) -> Vec<(Case, Observed)> {
     let mut original = Original::default();
@@ -189,7 +202,16 @@ pub fn faults(side: Side, seed: u64) -> Result<usize, String> {
         let with = noticed(&cases, side, *put_in);
         say(name, with.0 > 0, with);
     }
-    println!("{} passed, {failed} failed", FAULTS.len() + 1 - failed);
+    let cases = limited::judged_cases(seed);
+    println!("{} cases under limits of notices.", cases.len());
+    let without = noticed(&cases, side, |_| {});
+    say("no fault under limits", without.0 == 0, without);
+    for Fault { name, put_in } in &LIMIT_FAULTS {
+        let with = noticed(&cases, side, *put_in);
+        say(name, with.0 > 0, with);
+    }
+    let all = FAULTS.len() + LIMIT_FAULTS.len() + 2;
+    println!("{} passed, {failed} failed", all - failed);
     Ok(failed)
 }
 

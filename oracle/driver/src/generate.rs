@@ -513,6 +513,7 @@ fn some_case(rng: &mut Rng, calls: &[Call]) -> Case {
         p2,
         p2_star,
         overall: rng.once_in(3).then(|| rng.below(12000) as u32),
+        limit: None,
     };
     Case::new(call, setting)
 }
@@ -585,6 +586,54 @@ fn sequences(rng: &mut Rng, visit: &mut Visit) {
         let (deadline, now) = add_waiting(rng, &mut case, 12);
         let reply = good_reply(&case.call, rng);
         add_closing(rng, &mut case, deadline, now, &reply);
+        visit(&case);
+    }
+}
+
+/// For limits of notices, so many cases: a controller that says wait all day, by few notices or by some more than 250, at
+/// times one that only lenient takes for a notice, with idles between them; then a closing. T is at and around an event.
+pub fn waiting(rng: &mut Rng, cases: usize, visit: &mut Visit) {
+    let calls = sample_calls();
+    for _ in 0..cases {
+        let mut case = some_case(rng, &calls);
+        if rng.once_in(4) {
+            case.call = some_call(rng);
+        }
+        let many = rng.once_in(8);
+        let count = if many {
+            rng.between(253, 259)
+        } else {
+            rng.between(1, 6)
+        };
+        let (mut deadline, mut now) = (u64::from(case.setting.p2), 0);
+        for _ in 0..count {
+            now = if many {
+                (now + rng.pick(&[0, 0, 1, 7])).min(deadline)
+            } else {
+                next_time(rng, now, deadline)
+            };
+            let time = now as u32;
+            if rng.once_in(4) {
+                case.event(time, IDLE, 0);
+            }
+            let sid = case.call.sid();
+            match rng.below(4 * count) {
+                0 => case.reply(time, &[0x7f, sid ^ 1, 0x78]),
+                1 => case.reply(time, &[0x7f, sid, 0x78, 0xaa]),
+                _ => case.reply(time, &[0x7f, sid, 0x78]),
+            };
+            if now <= deadline {
+                deadline = now + u64::from(case.setting.p2_star);
+            }
+        }
+        let reply = good_reply(&case.call, rng);
+        add_closing(rng, &mut case, deadline, now, &reply);
+        if rng.coin() {
+            let at = rng.below(case.events.len());
+            let time = case.events[at].time;
+            let overall = rng.pick(&[time.saturating_sub(1), time, time + 1]);
+            case.setting.overall = Some(overall);
+        }
         visit(&case);
     }
 }

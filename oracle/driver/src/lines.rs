@@ -51,27 +51,37 @@ pub fn handed_by_rule<'c>(case: &'c Case, original: &Observed) -> &'c [u8] {
     }
 }
 
+/// The bytes of a file.
+pub fn file(path: &str) -> Result<Vec<u8>, String> {
+    std::fs::read(path).map_err(|error| format!("{path} cannot be read: {error}."))
+}
+
+/// The expected lines of so many logs.
+pub fn expected(path: &str, logs: usize) -> Result<Vec<String>, String> {
+    let lines = std::fs::read_to_string(path)
+        .map_err(|error| format!("{path} cannot be read: {error}."))?;
+    let lines: Vec<String> = lines.lines().map(String::from).collect();
+    if lines.len() != logs {
+        return Err(format!(
+            "There are {logs} logs and {} expected lines.",
+            lines.len()
+        ));
+    }
+    Ok(lines)
+}
+
 /// Prints the line of each log of a file, or compares it with the expected one.
-pub fn lines(logs: &str, expected: Option<&str>) -> Result<usize, String> {
-    let file = std::fs::read(logs).map_err(|error| format!("{logs} cannot be read: {error}."))?;
+pub fn lines(logs: &str, wanted: Option<&str>) -> Result<usize, String> {
+    let file = file(logs)?;
     let logs = log::split(&file)?;
     let mut original = Original::default();
-    let Some(expected) = expected else {
+    let Some(wanted) = wanted else {
         for log in logs {
             println!("{}", line_of(&mut original, log).0);
         }
         return Ok(0);
     };
-    let wanted = std::fs::read_to_string(expected)
-        .map_err(|error| format!("{expected} cannot be read: {error}."))?;
-    let wanted: Vec<&str> = wanted.lines().collect();
-    if wanted.len() != logs.len() {
-        return Err(format!(
-            "There are {} logs and {} expected lines.",
-            logs.len(),
-            wanted.len()
-        ));
-    }
+    let wanted = expected(wanted, logs.len())?;
     let (mut by_original, mut by_exchange, mut refused, mut bad, mut failed) = (0, 0, 0, 0, 0);
     for (at, (log, wanted)) in logs.iter().zip(&wanted).enumerate() {
         let (line, source) = line_of(&mut original, log);

@@ -155,7 +155,7 @@ pub fn call_of(number: u8, flags: u8, value: u16, sub: u8, memory: Memory, data:
     }
 }
 
-/// The setting that the flags and P2, P2*, T say.
+/// The setting that the flags and P2, P2*, T say. No log has a limit of notices.
 pub fn setting_of(flags: u8, [p2, p2_star, overall]: [u32; 3]) -> Setting {
     let flag = |weight| flags & weight != 0;
     Setting {
@@ -165,6 +165,7 @@ pub fn setting_of(flags: u8, [p2, p2_star, overall]: [u32; 3]) -> Setting {
         p2,
         p2_star,
         overall: flag(OVERALL).then_some(overall),
+        limit: None,
     }
 }
 

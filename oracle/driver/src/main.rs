@@ -6,6 +6,7 @@ mod compare;
 mod direct;
 mod faults;
 mod generate;
+mod limited;
 mod lines;
 mod list;
 mod log;
@@ -22,6 +23,8 @@ oracle lines LOGS [EXPECTED]       the line of each log of a file, or a comparis
 oracle compare SIDE [SEED] [full]  the original against SIDE on millions of generated cases
 oracle sample SIDE [SEED]          the same on some of each kind of them
 oracle faults SIDE [SEED]          that faults in the inputs of SIDE are noticed
+oracle limited SIDE [SEED]         SIDE under limits of notices, which the original does not have
+oracle limits SIDE LOGS EXPECTED   the line of each log under the limit that its expected line begins with
 oracle list PREFIX [SEED]          writes the fixed list, PREFIX.bin and PREFIX.expected
 oracle time [SEED] [LOGS]          what a call costs, on the logs of a file too
 SIDE is direct or, where the driver was built with it, proved. SEED is a number, 1 if left out.";
@@ -56,6 +59,8 @@ fn run(words: &[&str]) -> Result<usize, String> {
         ["compare", name, more @ ..] => compare::compare(side(name)?, seed(more.first())?, false),
         ["sample", name, more @ ..] => faults::sample(side(name)?, seed(more.first())?),
         ["faults", name, more @ ..] => faults::faults(side(name)?, seed(more.first())?),
+        ["limited", name, more @ ..] => limited::limited(side(name)?, seed(more.first())?),
+        ["limits", name, logs, expected] => limited::limits(side(name)?, logs, expected),
         ["list", prefix, more @ ..] => list::list(prefix, seed(more.first())?),
         ["time", number, logs] => time::time(seed(Some(number))?, Some(logs)),
         ["time", more @ ..] => time::time(seed(more.first())?, None),

@@ -203,6 +203,8 @@ pub struct Setting {
     pub p2_star: u32,
     /// T.
     pub overall: Option<u32>,
+    /// Document 02's limit of notices, which the original does not have.
+    pub limit: Option<u8>,
 }
 
 impl Default for Setting {
@@ -214,6 +216,7 @@ impl Default for Setting {
             p2: 50,
             p2_star: 5000,
             overall: None,
+            limit: None,
         }
     }
 }
@@ -315,6 +318,10 @@ pub enum Outcome {
         reply: Vec<u8>,
     },
     Refused(u8),
+    /// Document 02's, with the notice after the K-th.
+    PendingLimit {
+        reply: Vec<u8>,
+    },
     /// Something that document 01 does not know, such as a panic that is no refusal. Never right.
     Unknown(String),
 }
@@ -333,6 +340,7 @@ impl Outcome {
             Outcome::Length => "length",
             Outcome::Overflow { .. } => "overflow",
             Outcome::Refused(_) => "refused",
+            Outcome::PendingLimit { .. } => "pendinglimit",
             Outcome::Unknown(_) => "unknown",
         }
     }

@@ -1,5 +1,6 @@
 //! One case on the original under tokio's paused clock: a mock transport plays the events at their times, and what the
-//! client did is read off its result, off the mock and off further exchanges of the same client.
+//! client did is read off its result, off the mock and off further exchanges of the same client. A limit of notices, which
+//! it does not have, changes nothing.
 
 use crate::model::{Call, Case, Data, Event, Memory, Observed, Outcome, END, ERROR, IDLE, REPLY};
 use automotive::protocols::uds::{

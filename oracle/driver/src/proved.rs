@@ -22,6 +22,7 @@ pub fn prepare(case: &Case) -> Prepared {
         server_timing: setting.server_timing,
         suppressed: setting.quiet,
         overall: setting.overall,
+        notice_limit: setting.limit,
         wide: false,
     };
     Prepared {
@@ -184,6 +185,9 @@ fn outcome_of(answer: &Answer<'_, '_>, replies: &[u8]) -> (Outcome, Option<Place
             reply: answer.reply.to_vec(),
         },
         Proved::Refused(number) => Outcome::Refused(number),
+        Proved::PendingLimit => Outcome::PendingLimit {
+            reply: answer.reply.to_vec(),
+        },
     };
     (outcome, None)
 }

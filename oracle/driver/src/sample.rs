@@ -48,6 +48,7 @@ fn kind(generator: usize, case: &Case) -> Kind {
         Verdict::Length => (7, 0),
         Verdict::Overflow => (8, 0),
         Verdict::Refused(number) => (9, number),
+        Verdict::PendingLimit => (10, 0),
     };
     Kind {
         generator,

@@ -1,5 +1,5 @@
 -- `exchange::turn` meets its contract.
-use Rattle.exchange.proofs.Turning.{turns-notice, turns-reply, turns-idle, turns-ended, turns-failed}
+use Rattle.exchange.proofs.Turning.{turns-notice, turns-limit, turns-reply, turns-idle, turns-ended, turns-failed}
 use borrow.Author.Needs.{needs}
 use Rattle.exchange.proofs.turn.Statement.{statement}
 use Rattle.exchange.proofs.turn.Tie as tie
@@ -20,23 +20,37 @@ look-requires c κs = search needs
 enum-told : tie.Need-enum-told
 enum-told c = search needs
 
+allows-requires : tie.Need-allows-requires
+allows-requires c κs = search needs
+
 counted-requires-2 : tie.Need-counted-requires-2
 counted-requires-2 c κs = search needs
 
-cast-t18 : tie.Need-cast-t18
-cast-t18 c = search needs
+cast-t21 : tie.Need-cast-t21
+cast-t21 c = search needs
 
-add-t19 : tie.Need-add-t19
-add-t19 c = search needs
+add-t22 : tie.Need-add-t22
+add-t22 c = search needs
 
 returns : tie.Need-returns
 returns c =
-    let at-look = c .before .before .before .before in
+    let at-counted-2 = c .before .before in
+    let at-look = at-counted-2 .before .before .before .before in
     let at-named = at-look .before in
     let at-if = at-named .before in
     let at-counted = at-if .before in
     turns-notice (at-counted .counted .ensures) (at-if .if1 .taken) (at-named .named .ensures) (at-look .look .ensures)
-    (c .before .before .enum-told .given .1) (c .before .counted2 .ensures)
+    (at-counted-2 .before .before .enum-told .given .1) (at-counted-2 .counted2 .ensures)
+    (at-counted-2 .before .allows .ensures) (c .before .if2 .taken)
+
+returns-2 : tie.Need-returns-2
+returns-2 c =
+    let at-look = c .before .before .before .before .before in
+    let at-named = at-look .before in
+    let at-if = at-named .before in
+    let at-counted = at-if .before in
+    turns-limit (at-counted .counted .ensures) (at-if .if1 .taken) (at-named .named .ensures) (at-look .look .ensures)
+    (c .before .before .before .enum-told .given .1) (c .before .counted2 .ensures) (c .before .before .allows .ensures) (c .if2 .left)
 
 enum-known-outcome : tie.Need-enum-known-outcome
 enum-known-outcome c = search needs
@@ -44,8 +58,8 @@ enum-known-outcome c = search needs
 finish-requires : tie.Need-finish-requires
 finish-requires c κs = search needs
 
-returns-2 : tie.Need-returns-2
-returns-2 c =
+returns-3 : tie.Need-returns-3
+returns-3 c =
     let at-look = c .before .before .before .before in
     let at-named = at-look .before in
     let at-if = at-named .before in
@@ -53,14 +67,14 @@ returns-2 c =
     turns-reply (at-counted .counted .ensures) (at-if .if1 .taken) (at-named .named .ensures) (at-look .look .ensures)
     (c .before .before .outcome .given .1) (c .finish .ensures)
 
-returns-3 : tie.Need-returns-3
-returns-3 c = turns-idle ((c .before .before .counted .ensures)) ((c .before .if1 .left)) ((c .if2 .taken))
-
 returns-4 : tie.Need-returns-4
-returns-4 c = turns-ended ((c .before .before .before .counted .ensures)) ((c .before .before .if1 .left)) ((c .before .if2 .left)) ((c .if3 .taken))
+returns-4 c = turns-idle ((c .before .before .counted .ensures)) ((c .before .if1 .left)) ((c .if3 .taken))
 
 returns-5 : tie.Need-returns-5
-returns-5 c = turns-failed ((c .before .before .before .counted .ensures)) ((c .before .before .if1 .left)) ((c .before .if2 .left)) ((c .if3 .left))
+returns-5 c = turns-ended ((c .before .before .before .counted .ensures)) ((c .before .before .if1 .left)) ((c .before .if3 .left)) ((c .if4 .taken))
+
+returns-6 : tie.Need-returns-6
+returns-6 c = turns-failed ((c .before .before .before .counted .ensures)) ((c .before .before .if1 .left)) ((c .before .if3 .left)) ((c .if4 .left))
 
 pub turn-spec : {M : Type 1} → statement M
 turn-spec =
@@ -71,13 +85,15 @@ turn-spec =
     named-requires
     look-requires
     enum-told
+    allows-requires
     counted-requires-2
-    cast-t18
-    add-t19
+    cast-t21
+    add-t22
     returns
+    returns-2
     enum-known-outcome
     finish-requires
-    returns-2
     returns-3
     returns-4
-    returns-5)
+    returns-5
+    returns-6)

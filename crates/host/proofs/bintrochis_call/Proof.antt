@@ -23,8 +23,9 @@ returns : tie.Need-returns
 returns c =
     let ask = c .before .before in
     let made = ask .before in
-    let l = made .before .before .before .before .before .args .arguments .now in
-    asks-none (unsuited (length l) (made .fields .ensures) (c .enum-told .given .1) (ask .ask-of .ensures))
+    let x = made .before .before .before .before .before .args in
+    let l = x .arguments .now in
+    asks-none (unsuited (x .limit) (length l) (made .fields .ensures) (c .enum-told .given .1) (ask .ask-of .ensures))
 
 fits-requires : tie.Need-fits-requires
 fits-requires c κs = search needs
@@ -34,9 +35,10 @@ returns-2 c =
     let told = c .before .before .before in
     let ask = told .before .before in
     let made = ask .before in
-    let l = made .before .before .before .before .before .args .arguments .now in
+    let x = made .before .before .before .before .before .args in
+    let l = x .arguments .now in
     let asks = told-of (made .fields .ensures) (told .ask .given .1) (ask .ask-of .ensures) in
-    asks-none (suited (length l) (made .fields .ensures) (asks .0) (c .before .fits2 .ensures) ∙ not-true _ (c .if1 .taken))
+    asks-none (suited (x .limit) (length l) (made .fields .ensures) (asks .0) (c .before .fits2 .ensures) ∙ not-true _ (c .if1 .taken))
 
 add-at-data : tie.Need-add-at-data
 add-at-data c = search needs
@@ -50,6 +52,9 @@ part-requires-2 c κs = search needs
 part-requires-3 : tie.Need-part-requires-3
 part-requires-3 c κs = search needs
 
+limited-requires : tie.Need-limited-requires
+limited-requires c κs = search needs
+
 in-session-requires : tie.Need-in-session-requires
 in-session-requires c κs = search needs
 
@@ -62,19 +67,21 @@ same-length c = search needs
 returns-3 : tie.Need-returns-3
 returns-3 c =
     let ran = c .before .before .before in
-    let parts = ran .before .before in
+    let set = ran .before .before in
+    let parts = set .before in
     let fit = parts .before .before .before in
     let told = fit .before .before .before in
     let ask = told .before .before in
     let made = ask .before in
-    let l = made .before .before .before .before .before .args .arguments .now in
+    let x = made .before .before .before .before .before .args in
+    let l = x .arguments .now in
     let asks = told-of (made .fields .ensures) (told .ask .given .1) (ask .ask-of .ensures) in
-    asks-in-bytes l (suited (length l) (made .fields .ensures) (asks .0) (fit .before .fits2 .ensures) ∙ not-false _ (fit .if1 .left))
+    asks-in-bytes (x .limit) l (suited (x .limit) (length l) (made .fields .ensures) (asks .0) (fit .before .fits2 .ensures) ∙ not-false _ (fit .if1 .left))
     (parts .before .before .part .ensures)
     (parts .before .part2 .ensures)
     (parts .part3 .ensures)
     (asks .1)
-    (ran .in-session .ensures)
+    (rw (set .limited .ensures) at (ran .in-session .ensures))
     (c .numbers .ensures)
 
 pub bintrochis-call-spec : {M : Type 1} → statement M
@@ -92,6 +99,7 @@ bintrochis-call-spec =
     part-requires
     part-requires-2
     part-requires-3
+    limited-requires
     in-session-requires
     numbers-requires
     same-length

@@ -32,10 +32,11 @@ returns-2 c =
     let one-of-four = ask .before in
     let has = one-of-four .before .has-alfid in
     let made = one-of-four .before .before in
-    let d = made .before .before .before .before .before .args .«data» .now in
+    let x = made .before .before .before .before .before .args in
+    let d = x .«data» .now in
     asks-none
     (rw (← has .ensures, not-false (has .result) (one-of-four .if1 .left))
-    (unsuited (length d) (made .fields .ensures) (c .enum-told .given .1) (ask .ask-of .ensures)))
+    (unsuited (x .limit) (length d) (made .fields .ensures) (c .enum-told .given .1) (ask .ask-of .ensures)))
 
 fits-requires : tie.Need-fits-requires
 fits-requires c κs = search needs
@@ -47,11 +48,15 @@ returns-3 c =
     let one-of-four = ask .before in
     let has = one-of-four .before .has-alfid in
     let made = one-of-four .before .before in
-    let d = made .before .before .before .before .before .args .«data» .now in
+    let x = made .before .before .before .before .before .args in
+    let d = x .«data» .now in
     let asks = told-of (made .fields .ensures) (told .ask .given .1) (ask .ask-of .ensures) in
     asks-none
     (rw (← has .ensures, not-false (has .result) (one-of-four .if1 .left))
-    (suited (length d) (made .fields .ensures) (asks .0) (c .before .fits2 .ensures) ∙ not-true _ (c .if2 .taken)))
+    (suited (x .limit) (length d) (made .fields .ensures) (asks .0) (c .before .fits2 .ensures) ∙ not-true _ (c .if2 .taken)))
+
+limited-requires : tie.Need-limited-requires
+limited-requires c κs = search needs
 
 run-alfid-requires : tie.Need-run-alfid-requires
 run-alfid-requires c κs = search needs
@@ -65,7 +70,8 @@ same-length c = search needs
 returns-4 : tie.Need-returns-4
 returns-4 c =
     let ran = c .before .before .before in
-    let fit = ran .before .before in
+    let set = ran .before .before in
+    let fit = set .before in
     let told = fit .before .before .before in
     let ask = told .before .before in
     let one-of-four = ask .before in
@@ -74,11 +80,11 @@ returns-4 c =
     let x = made .before .before .before .before .before .args in
     let d = x .«data» .now in
     let asks = told-of (made .fields .ensures) (told .ask .given .1) (ask .ask-of .ensures) in
-    asks-one (alfid (x .address) (x .address-width) (x .wide)) (alfid (x .size) (x .size-width) (x .wide)) d
+    asks-one (x .limit) (alfid (x .address) (x .address-width) (x .wide)) (alfid (x .size) (x .size-width) (x .wide)) d
     (asks .1)
-    (ran .run-alfid .ensures)
+    (rw (set .limited .ensures) at (ran .run-alfid .ensures))
     (rw (← has .ensures, not-false (has .result) (one-of-four .if1 .left))
-    (suited (length d) (made .fields .ensures) (asks .0) (fit .before .fits2 .ensures) ∙ not-false _ (fit .if2 .left)))
+    (suited (x .limit) (length d) (made .fields .ensures) (asks .0) (fit .before .fits2 .ensures) ∙ not-false _ (fit .if2 .left)))
     (c .numbers .ensures)
 
 pub bintrochis-call-alfid-spec : {M : Type 1} → statement M
@@ -94,6 +100,7 @@ bintrochis-call-alfid-spec =
     returns-2
     fits-requires
     returns-3
+    limited-requires
     run-alfid-requires
     numbers-requires
     same-length

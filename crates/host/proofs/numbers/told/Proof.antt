@@ -73,6 +73,12 @@ cast-plain-3 c = search needs
 plain-requires-8 : tie.Need-plain-requires-8
 plain-requires-8 c κs = search needs
 
+enum-told-6 : tie.Need-enum-told-6
+enum-told-6 c = search needs
+
+plain-requires-9 : tie.Need-plain-requires-9
+plain-requires-9 c κs = search needs
+
 returns : tie.Need-returns
 returns c = λ replies inside. placed replies (c .before .before .before .args .outcome) (c .before .outcome .given .1) inside
 
@@ -105,6 +111,9 @@ returns-9 c = λ replies inside. rw (c .before .before .before .before .outcome4
 returns-10 : tie.Need-returns-10
 returns-10 c = λ replies inside. rw (c .before .before .outcome5 .given .1) (c .plain8 .ensures)
 
+returns-11 : tie.Need-returns-11
+returns-11 c = λ replies inside. rw (c .before .enum-told6 .given .1) (c .plain9 .ensures)
+
 pub told-spec : {M : Type 1} → statement M
 told-spec =
     tie.close
@@ -132,6 +141,8 @@ told-spec =
     enum-known-outcome-5
     cast-plain-3
     plain-requires-8
+    enum-told-6
+    plain-requires-9
     returns
     returns-2
     returns-3
@@ -141,4 +152,5 @@ told-spec =
     returns-7
     returns-8
     returns-9
-    returns-10)
+    returns-10
+    returns-11)

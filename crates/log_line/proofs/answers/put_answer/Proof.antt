@@ -88,11 +88,11 @@ put-line-requires-5 c κs = search needs
 enum-known-outcome-3 : tie.Need-enum-known-outcome-3
 enum-known-outcome-3 c = search needs
 
-cast-t83 : tie.Need-cast-t83
-cast-t83 c = search needs
+cast-t86 : tie.Need-cast-t86
+cast-t86 c = search needs
 
-cast-t85 : tie.Need-cast-t85
-cast-t85 c = search needs
+cast-t88 : tie.Need-cast-t88
+cast-t88 c = search needs
 
 slice-aggregate-put-line-15 : tie.Need-slice-aggregate-put-line-15
 slice-aggregate-put-line-15 c = search needs
@@ -165,6 +165,21 @@ slice-aggregate-put-line-27 c = search needs
 
 put-line-requires-10 : tie.Need-put-line-requires-10
 put-line-requires-10 c κs = search needs
+
+enum-told-6 : tie.Need-enum-told-6
+enum-told-6 c = search needs
+
+slice-aggregate-put-line-28 : tie.Need-slice-aggregate-put-line-28
+slice-aggregate-put-line-28 c = search needs
+
+slice-aggregate-put-line-29 : tie.Need-slice-aggregate-put-line-29
+slice-aggregate-put-line-29 c = search needs
+
+slice-aggregate-put-line-30 : tie.Need-slice-aggregate-put-line-30
+slice-aggregate-put-line-30 c = search needs
+
+put-line-requires-11 : tie.Need-put-line-requires-11
+put-line-requires-11 c κs = search needs
 
 same-length : tie.Need-same-length
 same-length c = search needs
@@ -268,6 +283,15 @@ returns-10 c =
     let start = at-outcome .before .before .before .before .before .before in
     told (start .args .replies .now) (start .args .answer) (at-outcome .outcome5 .given .1) (c .before .before .put-line10 .ensures)
 
+same-length-11 : tie.Need-same-length-11
+same-length-11 c = search needs
+
+returns-11 : tie.Need-returns-11
+returns-11 c =
+    let at-enum-told = c .before .before .before .before .before .before .before in
+    let start = at-enum-told .before .before .before .before .before .before in
+    told (start .args .replies .now) (start .args .answer) (at-enum-told .enum-told6 .given .1) (c .before .before .put-line11 .ensures)
+
 pub put-answer-spec : {M : Type 1} → statement M
 put-answer-spec =
     tie.close
@@ -299,8 +323,8 @@ put-answer-spec =
     slice-aggregate-put-line-14
     put-line-requires-5
     enum-known-outcome-3
-    cast-t83
-    cast-t85
+    cast-t86
+    cast-t88
     slice-aggregate-put-line-15
     slice-aggregate-put-line-16
     slice-aggregate-put-line-17
@@ -325,6 +349,11 @@ put-answer-spec =
     slice-aggregate-put-line-26
     slice-aggregate-put-line-27
     put-line-requires-10
+    enum-told-6
+    slice-aggregate-put-line-28
+    slice-aggregate-put-line-29
+    slice-aggregate-put-line-30
+    put-line-requires-11
     same-length
     returns
     same-length-2
@@ -344,4 +373,6 @@ put-answer-spec =
     same-length-9
     returns-9
     same-length-10
-    returns-10)
+    returns-10
+    same-length-11
+    returns-11)

@@ -1,0 +1,13 @@
+-- `host::is_limit` meets its contract.
+use borrow.Author.Tests.{le-leb, lt-leb}
+use Rattle.host.proofs.is_limit.Statement.{statement}
+use Rattle.host.proofs.is_limit.Tie as tie
+
+returns : tie.Need-returns
+returns c = rw (le-leb _ 255 (c .if1 .taken))
+
+returns-2 : tie.Need-returns-2
+returns-2 c = rw (lt-leb _ 255 (c .if1 .left))
+
+pub is-limit-spec : {M : Type 1} → statement M
+is-limit-spec = tie.close (tie.spec returns returns-2)
