@@ -54,9 +54,11 @@ enum bintrochis_flag {
 };
 
 /* An event, BINTROCHIS_EVENT bytes, big-endian: time u32 in milliseconds since sending, kind u16, offset into the reply bytes u16, length
- * u16. A transport error has its number in place of the length. Times never fall; at most 512 events, of these kinds; a reply has at most
- * 4,095 bytes and lies in the reply bytes. A list that breaks one of these is refused (10). */
+ * u16. A transport error has its number in place of the length. An addressed event has BINTROCHIS_ADDRESSED_EVENT bytes: the same, and the
+ * source address u16 last, which is 0 for all but a reply. Times never fall; at most 512 events, of these kinds; a reply has at most 4,095
+ * bytes and lies in the reply bytes, from whatever address it comes. A list that breaks one of these is refused (10). */
 #define BINTROCHIS_EVENT 10
+#define BINTROCHIS_ADDRESSED_EVENT 12
 enum bintrochis_event_kind {
     BINTROCHIS_REPLY = 0,
     BINTROCHIS_IDLE = 1,
@@ -77,7 +79,7 @@ enum bintrochis_number {
     BINTROCHIS_LEAST = 2,   /* deviation 8: the least length that the reply may have; else 0 */
     BINTROCHIS_MOST = 3,    /* and the greatest; BINTROCHIS_NO_MAXIMUM: there is none. Call 15 also wants 3 plus a multiple of 4 */
     BINTROCHIS_TIME = 4,    /* the finishing time, in milliseconds since sending; under a refusal 0 */
-    BINTROCHIS_EVENTS = 5,  /* how many events were read, the one that settled the call included */
+    BINTROCHIS_EVENTS = 5,  /* how many events were read, the one that settled the call included, and replies from other addresses */
     BINTROCHIS_NOTICES = 6, /* and how many of these were wait notices, negatives of code 78 */
     BINTROCHIS_DATA_AT = 7, /* the data that a positive hands out: where in the reply bytes; else 0 */
     BINTROCHIS_DATA_LENGTH = 8,
@@ -114,24 +116,29 @@ enum bintrochis_result {
                              - a flag does not suit the call, or one that it needs is missing;
                              - a field that the call does not use is not 0 (value, sub, lengths, overall), or value is above 255 for calls 0, 9, 13, 15;
                              - limit is 256 to 65,534;
+                             - listens is not 0 without addressed;
                              - there are fewer argument bytes than the two lengths say, or more without BINTROCHIS_DATA; in the second
                                function: there are data bytes without BINTROCHIS_DATA. */
 };
 
 /* Any call. `arguments` are address, size and data, one behind the other, the first two as long as `address_length` and `size_length` say.
  * `limit` is how many notices the call bears, 0 to 255, or BINTROCHIS_NO_LIMIT. The one after ends it, and with a limit every call finishes
- * by P2 + limit x P2*. */
+ * by P2 + limit x P2*.
+ * `addressed` says that events have BINTROCHIS_ADDRESSED_EVENT bytes; without it they have BINTROCHIS_EVENT, and all addresses are 0.
+ * `listens` is the address that the call listens to. A reply from another is read and passed over, whatever it says: it is counted among the
+ * events read, and all else is as if it had not come. A reply from 0 is no exception. */
 uint8_t bintrochis_call(uint8_t call, uint8_t flags, uint16_t value, uint8_t sub, uint8_t address_length, uint8_t size_length, uint32_t p2,
-                        uint32_t p2_star, uint32_t overall, uint16_t limit, const uint8_t *arguments, size_t arguments_length,
-                        uint8_t *request, size_t request_length, const uint8_t *events, size_t events_length, const uint8_t *replies,
-                        size_t replies_length, uint64_t BINTROCHIS_ANSWER(answer));
+                        uint32_t p2_star, uint32_t overall, uint16_t limit, bool addressed, uint16_t listens, const uint8_t *arguments,
+                        size_t arguments_length, uint8_t *request, size_t request_length, const uint8_t *events, size_t events_length,
+                        const uint8_t *replies, size_t replies_length, uint64_t BINTROCHIS_ANSWER(answer));
 
 /* Calls 5, 6, 11 and 12 with address and size as numbers, each with a width in bytes: 1 to 8 or, if `wide`, 1 to 15, padded with zeros on
  * the left. Refusals 6 and 7 come from here alone. */
 uint8_t bintrochis_call_alfid(uint8_t call, uint8_t flags, uint16_t value, uint64_t address, uint64_t size, size_t address_width,
                               size_t size_width, bool wide, uint32_t p2, uint32_t p2_star, uint32_t overall, uint16_t limit,
-                              const uint8_t *data, size_t data_length, uint8_t *request, size_t request_length, const uint8_t *events,
-                              size_t events_length, const uint8_t *replies, size_t replies_length, uint64_t BINTROCHIS_ANSWER(answer));
+                              bool addressed, uint16_t listens, const uint8_t *data, size_t data_length, uint8_t *request,
+                              size_t request_length, const uint8_t *events, size_t events_length, const uint8_t *replies,
+                              size_t replies_length, uint64_t BINTROCHIS_ANSWER(answer));
 
 #ifdef __cplusplus
 }

@@ -55,15 +55,25 @@ try "udslog: a file that may not be read" 1 "" "$room/secret*Permission denied" 
 try "udslog: a read that fails is no end" 1 "" "/proc/self/mem*Input/output error" ./udslog /proc/self/mem
 try "udslog: a missing file does not keep the next from its line" 1 "$log: $line" "$room/none*No such file" ./udslog "$room/none" "$log"
 
-# The longest log, a request of 65,499 data bytes, which is refused as too long (08); one byte more is no log.
+# The longest log, a request of 65,499 data bytes, in version 2 of one less, which is refused as too long (08); one byte more is no log.
 longest() {
     echo '0001 00 20 0022 00 00 00 00 ffdb 0024 0000 ffff 0000 ffff ffff 00000032 00001388 00000000' | scripts/hex-to-log
     head -c 65499 /dev/zero
 }
+longest_2() {
+    echo '0002 00 20 0022 00 00 00 07e8 ffda 0025 0000 ffff 0000 ffff ffff 00000032 00001388 00000000' | scripts/hex-to-log
+    head -c 65498 /dev/zero
+}
 longest_log() { longest | ./udslog; }
+longest_log_2() { longest_2 | ./udslog; }
+one_byte_more_2() { (longest_2 && printf '\0') | ./udslog; }
+version_3() { (printf '\0\3' && scripts/hex-to-log <examples/18-trolley-late-count.hex | tail -c +3) | ./udslog; }
 one_byte_more() { (longest && printf '\0') | ./udslog; }
 try "udslog: the longest log, 65,535 bytes" 0 "refused 0 0 0 08" "" longest_log
 try "udslog: one byte more is a bad log" 0 "$badlog" "" one_byte_more
+try "udslog: the longest log of version 2" 0 "refused 0 0 0 08" "" longest_log_2
+try "udslog: one byte more in version 2" 0 "$badlog" "" one_byte_more_2
+try "udslog: there is no version 3" 0 "$badlog" "" version_3
 try "udslog: input without an end is a bad log" 0 "$badlog" "" timeout 20 ./udslog /dev/zero
 
 # Writing.

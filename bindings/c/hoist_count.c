@@ -12,8 +12,8 @@ int main(void) {
     uint64_t answer[BINTROCHIS_NUMBERS];
 
     /* With nothing heard yet, the call says what to send. */
-    if (bintrochis_call(BINTROCHIS_READ_DATA_BY_IDENTIFIER, flags, identifier, 0, 0, 0, 50, 5000, 0, BINTROCHIS_NO_LIMIT, nothing, 0, request,
-                        sizeof request, nothing, 0, nothing, 0, answer) != BINTROCHIS_DONE) {
+    if (bintrochis_call(BINTROCHIS_READ_DATA_BY_IDENTIFIER, flags, identifier, 0, 0, 0, 50, 5000, 0, BINTROCHIS_NO_LIMIT, false, 0, nothing,
+                        0, request, sizeof request, nothing, 0, nothing, 0, answer) != BINTROCHIS_DONE) {
         return 1;
     }
     printf("send");
@@ -28,8 +28,8 @@ int main(void) {
         0, 0, 0x00, 0x14, 0, BINTROCHIS_REPLY, 0, 0, 0, 3,
         0, 0, 0x03, 0x84, 0, BINTROCHIS_REPLY, 0, 3, 0, 5,
     };
-    if (bintrochis_call(BINTROCHIS_READ_DATA_BY_IDENTIFIER, flags, identifier, 0, 0, 0, 50, 5000, 0, BINTROCHIS_NO_LIMIT, nothing, 0, request,
-                        sizeof request, events, sizeof events, replies, sizeof replies, answer) != BINTROCHIS_DONE) {
+    if (bintrochis_call(BINTROCHIS_READ_DATA_BY_IDENTIFIER, flags, identifier, 0, 0, 0, 50, 5000, 0, BINTROCHIS_NO_LIMIT, false, 0, nothing,
+                        0, request, sizeof request, events, sizeof events, replies, sizeof replies, answer) != BINTROCHIS_DONE) {
         return 1;
     }
     if (answer[BINTROCHIS_OUTCOME] != BINTROCHIS_POSITIVE || answer[BINTROCHIS_DATA_LENGTH] != 2) {

@@ -41,10 +41,10 @@ static uint8_t asked(uint16_t limit, bool alfid) {
     }
     if (alfid) {
         return bintrochis_call_alfid(BINTROCHIS_READ_MEMORY_BY_ADDRESS, BINTROCHIS_STRICT, 0, 0x2000, 4, 2, 1, false, 50, 5000, 0, limit,
-                                     memory, 0, request, sizeof request, events, sizeof events, replies, sizeof replies, answer);
+                                     false, 0, memory, 0, request, sizeof request, events, sizeof events, replies, sizeof replies, answer);
     }
-    return bintrochis_call(BINTROCHIS_READ_MEMORY_BY_ADDRESS, BINTROCHIS_STRICT, 0, 0, 2, 1, 50, 5000, 0, limit, memory, sizeof memory,
-                           request, sizeof request, events, sizeof events, replies, sizeof replies, answer);
+    return bintrochis_call(BINTROCHIS_READ_MEMORY_BY_ADDRESS, BINTROCHIS_STRICT, 0, 0, 2, 1, 50, 5000, 0, limit, false, 0, memory,
+                           sizeof memory, request, sizeof request, events, sizeof events, replies, sizeof replies, answer);
 }
 
 int main(void) {

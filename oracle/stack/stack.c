@@ -12,7 +12,7 @@
 
 #include "bintrochis.h"
 
-enum { ROOM = 1 << 18, HEADER = 36 };
+enum { ROOM = 1 << 18, HEADER = 36 }; /* the header of version 1; that of version 2 has one byte more */
 
 static _Alignas(64) unsigned char stack[ROOM];
 static ucontext_t here, there;
@@ -21,6 +21,7 @@ static void (*body)(void);
 /* What a call is given. */
 static const uint8_t *header, *arguments, *events, *replies;
 static size_t argument_count, event_bytes, reply_count;
+static bool addressed;
 static uint8_t request[BINTROCHIS_LONGEST_REQUEST], result;
 static uint64_t answer[BINTROCHIS_NUMBERS];
 
@@ -30,15 +31,17 @@ static uint32_t u32_at(const uint8_t *p) { return (uint32_t)u16_at(p) << 16 | (u
 static void nothing(void) {}
 
 static void in_bytes(void) {
-    result = bintrochis_call(header[2], header[3], (uint16_t)u16_at(header + 4), header[6], header[7], header[8], u32_at(header + 24),
-                             u32_at(header + 28), u32_at(header + 32), BINTROCHIS_NO_LIMIT, arguments, argument_count, request,
-                             sizeof request, events, event_bytes, replies, reply_count, answer);
+    const uint8_t *times = header + 24 + addressed;
+    const uint16_t listens = addressed ? (uint16_t)u16_at(header + 9) : header[9];
+    result = bintrochis_call(header[2], header[3], (uint16_t)u16_at(header + 4), header[6], header[7], header[8], u32_at(times),
+                             u32_at(times + 4), u32_at(times + 8), BINTROCHIS_NO_LIMIT, addressed, listens, arguments, argument_count,
+                             request, sizeof request, events, event_bytes, replies, reply_count, answer);
 }
 
 static void in_numbers(void) {
     result = bintrochis_call_alfid(header[2], header[3], header[2] > 10 ? 0x0102 : 0, 0x0102030405060708, 0x1112131415161718, 8, 8, false, 50,
-                                   5000, 0, BINTROCHIS_NO_LIMIT, arguments, argument_count, request, sizeof request, events, event_bytes,
-                                   replies, reply_count, answer);
+                                   5000, 0, BINTROCHIS_NO_LIMIT, false, 0, arguments, argument_count, request, sizeof request, events,
+                                   event_bytes, replies, reply_count, answer);
 }
 
 static void enter(void) { body(); }
@@ -95,17 +98,19 @@ int main(int count, char **words) {
             fprintf(stderr, "%s ends within a log.\n", words[1]);
             return 2;
         }
-        if (size < HEADER) {
+        addressed = size > 1 && u16_at(log) == 2;
+        const size_t fixed = HEADER + addressed;
+        if (size < fixed) {
             continue;
         }
         header = log;
-        argument_count = u16_at(log + 10);
-        event_bytes = u16_at(log + 14) * BINTROCHIS_EVENT;
-        reply_count = u16_at(log + 18);
-        if (HEADER + argument_count + event_bytes + reply_count != size) {
+        argument_count = u16_at(log + 10 + addressed);
+        event_bytes = u16_at(log + 14 + addressed) * (addressed ? BINTROCHIS_ADDRESSED_EVENT : BINTROCHIS_EVENT);
+        reply_count = u16_at(log + 18 + addressed);
+        if (fixed + argument_count + event_bytes + reply_count != size) {
             continue;
         }
-        arguments = log + HEADER;
+        arguments = log + fixed;
         events = arguments + argument_count;
         replies = events + event_bytes;
         const size_t bytes = taken(in_bytes);

@@ -26,7 +26,7 @@ HANDED_FIELDS = ('answer', 'bytes')
 
 # What is ensured of the answer r and of the request's last list zs; and which part of the replies is handed out.
 CALLED = '''Called (ask .strict) (settingOf ask session) (callOf (ask .call) (address .now) (size .now) (payload .now))
-      (lentOf (request .now) (events .now) (replies .now)) r zs'''
+      (lentOf (ask .channel) (request .now) (events .now) (replies .now)) r zs'''
 HANDED_OUT = 'handedOf r (replies .now)'
 # What `data_in_session` ensures, from what is ensured of the answer (e) and of the part (e₂).
 HANDS_OUT = '''record {

@@ -10,6 +10,7 @@ fn main() {
         suppressed: false,
         overall: None,
         notice_limit: None,
+        listens: None,
         wide: false,
     };
     let asked = Asked::new(&call, &config);

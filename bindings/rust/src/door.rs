@@ -38,6 +38,8 @@ extern "C" {
         p2_star: u32,
         overall: u32,
         limit: u16,
+        addressed: bool,
+        listens: u16,
         arguments: *const u8,
         arguments_length: usize,
         request: *mut u8,
@@ -62,6 +64,8 @@ extern "C" {
         p2_star: u32,
         overall: u32,
         limit: u16,
+        addressed: bool,
+        listens: u16,
         data: *const u8,
         data_length: usize,
         request: *mut u8,
@@ -89,6 +93,9 @@ pub struct Fields {
     pub memory: Memory,
     pub overall: u32,
     pub limit: u16,
+    /// Whether events have twelve bytes, as in version 2, and the address listened to.
+    pub addressed: bool,
+    pub listens: u16,
 }
 
 /// Lengths of address and size where these are bytes, or in the `alfid` form the numbers themselves.
@@ -131,6 +138,8 @@ pub fn call(fields: Fields, [p2, p2_star]: [u32; 2], lent: Lent<'_>, answer: &mu
         memory,
         overall,
         limit,
+        addressed,
+        listens,
     } = fields;
     let Lent {
         arguments,
@@ -153,6 +162,8 @@ pub fn call(fields: Fields, [p2, p2_star]: [u32; 2], lent: Lent<'_>, answer: &mu
                 p2_star,
                 overall,
                 limit,
+                addressed,
+                listens,
                 arguments.as_ptr(),
                 arguments.len(),
                 request.as_mut_ptr(),
@@ -182,6 +193,8 @@ pub fn call(fields: Fields, [p2, p2_star]: [u32; 2], lent: Lent<'_>, answer: &mu
                 p2_star,
                 overall,
                 limit,
+                addressed,
+                listens,
                 arguments.as_ptr(),
                 arguments.len(),
                 request.as_mut_ptr(),
@@ -215,6 +228,8 @@ mod tests {
             memory: PLAIN,
             overall: 0,
             limit: NO_LIMIT,
+            addressed: false,
+            listens: 0,
         }
     }
 
@@ -279,6 +294,15 @@ mod tests {
             let limited = |fields| Fields { limit, ..fields };
             assert_eq!(tried(limited(read()), &[]), (DONE, false), "{limit}");
             assert_eq!(tried(limited(alfid()), &[]), (DONE, false), "{limit}");
+        }
+        for listens in [0, 1, 0x7e8, 65535] {
+            let listening = |fields| Fields {
+                addressed: true,
+                listens,
+                ..fields
+            };
+            assert_eq!(tried(listening(read()), &[]), (DONE, false), "{listens}");
+            assert_eq!(tried(listening(alfid()), &[]), (DONE, false), "{listens}");
         }
     }
 
@@ -410,6 +434,12 @@ mod tests {
         for limit in [256, 257, 32768, NO_LIMIT - 1] {
             for fields in [read(), alfid()] {
                 let fields = Fields { limit, ..fields };
+                assert_eq!(tried(fields, &[]), (MISUSE, true), "{fields:?}");
+            }
+        }
+        for listens in [1, 255, 256, 0x7e8, 65535] {
+            for fields in [read(), alfid()] {
+                let fields = Fields { listens, ..fields };
                 assert_eq!(tried(fields, &[]), (MISUSE, true), "{fields:?}");
             }
         }

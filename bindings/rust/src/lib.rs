@@ -34,6 +34,9 @@ pub struct Config {
     pub overall: Option<u32>,
     /// How many notices (NRC 0x78) a call bears; the one after ends it with [`Outcome::PendingLimit`]. None if left out.
     pub notice_limit: Option<u8>,
+    /// The address listened to on a channel that several controllers answer on: events are [`AddressedEvents`], and replies from
+    /// other addresses are passed over. If left out, events are [`Events`], which have no addresses.
+    pub listens: Option<u16>,
     /// The `alfid` forms take widths of 1 to 15 bytes, padded with zeros on the left, and not only of 1 to 8.
     pub wide: bool,
 }
@@ -193,7 +196,8 @@ pub struct Answer<'q, 'r> {
     pub outcome: Outcome<'r>,
     /// The finishing time, in milliseconds since sending.
     pub time: u64,
-    /// How many events were read, the one that settled the call included, and how many of these were wait notices.
+    /// How many events were read, the one that settled the call and replies from other addresses included, and how many of these
+    /// were wait notices.
     pub events: usize,
     pub notices: usize,
     /// The reply that settled the call; empty if none did.
@@ -204,7 +208,7 @@ pub struct Answer<'q, 'r> {
     pub request: &'q [u8],
 }
 
-/// What was heard, each event in ten bytes as in a log.
+/// What was heard, each event in ten bytes as in a log of version 1: no addresses.
 #[derive(Debug, Clone, Default, PartialEq, Eq)]
 pub struct Events(Vec<u8>);
 
@@ -214,10 +218,7 @@ impl Events {
     }
 
     fn push(&mut self, time: u32, kind: u16, offset: u16, length: u16) -> &mut Events {
-        self.0.extend(time.to_be_bytes());
-        for field in [kind, offset, length] {
-            self.0.extend(field.to_be_bytes());
-        }
+        extend(&mut self.0, time, &[kind, offset, length]);
         self
     }
 
@@ -240,6 +241,61 @@ impl Events {
 
     pub fn as_bytes(&self) -> &[u8] {
         &self.0
+    }
+}
+
+/// What was heard on a channel that several controllers answer on, each event in twelve bytes as in a log of version 2: the source
+/// address last. Idle, end and error concern everyone, and have address 0.
+#[derive(Debug, Clone, Default, PartialEq, Eq)]
+pub struct AddressedEvents(Vec<u8>);
+
+impl AddressedEvents {
+    pub fn new() -> AddressedEvents {
+        AddressedEvents::default()
+    }
+
+    fn push(
+        &mut self,
+        time: u32,
+        [kind, offset, length]: [u16; 3],
+        source: u16,
+    ) -> &mut AddressedEvents {
+        extend(&mut self.0, time, &[kind, offset, length, source]);
+        self
+    }
+
+    /// A reply from this address: these bytes of the reply bytes.
+    pub fn reply(
+        &mut self,
+        time: u32,
+        offset: u16,
+        length: u16,
+        source: u16,
+    ) -> &mut AddressedEvents {
+        self.push(time, [0, offset, length], source)
+    }
+
+    pub fn idle(&mut self, time: u32) -> &mut AddressedEvents {
+        self.push(time, [1, 0, 0], 0)
+    }
+
+    pub fn end(&mut self, time: u32) -> &mut AddressedEvents {
+        self.push(time, [2, 0, 0], 0)
+    }
+
+    pub fn error(&mut self, time: u32, number: u16) -> &mut AddressedEvents {
+        self.push(time, [3, 0, number], 0)
+    }
+
+    pub fn as_bytes(&self) -> &[u8] {
+        &self.0
+    }
+}
+
+fn extend(events: &mut Vec<u8>, time: u32, fields: &[u16]) {
+    events.extend(time.to_be_bytes());
+    for field in fields {
+        events.extend(field.to_be_bytes());
     }
 }
 
@@ -356,11 +412,14 @@ impl Asked {
             memory,
             overall: config.overall.unwrap_or(0),
             limit: config.notice_limit.map_or(door::NO_LIMIT, u16::from),
+            addressed: config.listens.is_some(),
+            listens: config.listens.unwrap_or(0),
         };
         Asked { fields, arguments }
     }
 
-    /// The whole call. `events` are those of [`Events`], or a log's; `replies` are the bytes that they name parts of.
+    /// The whole call. `events` are those of [`Events`], or of [`AddressedEvents`] where the call listens to an address, or a log's;
+    /// `replies` are the bytes that they name parts of.
     pub fn answer<'q, 'r>(
         &self,
         session: &mut Session,

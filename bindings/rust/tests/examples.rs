@@ -1,9 +1,9 @@
-//! The ten examples of document 01 through the bindings, the requests of all calls, the list of faults, the limit of notices, and what
-//! the bindings add: enums, slices, a session.
+//! The ten examples of document 01 through the bindings, the requests of all calls, the list of faults, the limit of notices, several
+//! controllers on one channel, and what the bindings add: enums, slices, a session.
 
 use bintrochis::{
-    Answer, Asked, Call, Config, Events, Memory, NegativeResponseCode, Outcome, ProtocolDeviation,
-    Session, LONGEST_REQUEST,
+    AddressedEvents, Answer, Asked, Call, Config, Events, Memory, NegativeResponseCode, Outcome,
+    ProtocolDeviation, Session, LONGEST_REQUEST,
 };
 
 const STRICT: Config = Config {
@@ -12,6 +12,7 @@ const STRICT: Config = Config {
     suppressed: false,
     overall: None,
     notice_limit: None,
+    listens: None,
     wide: false,
 };
 const LENIENT: Config = Config {
@@ -419,6 +420,152 @@ fn a_limit_of_255_and_what_an_answer_behind_it_has() {
         assert_eq!(answer.request, [0x22, 0xf1, 0x90]);
         assert_eq!(answer.block_length, 0);
     });
+}
+
+const HOIST: u16 = 0x7e8;
+const TROLLEY: u16 = 0x7e9;
+const COUNT: &[u8] = &[0x62, 0xf1, 0x90, 0x03, 0xe8];
+const TROLLEYS: &[u8] = &[0x62, 0xf1, 0x90, 0x07, 0xd0];
+const COUNTED: Outcome<'static> = Outcome::PositiveResponse(&[0x03, 0xe8]);
+
+/// A call that listens to the hoist gives outcome, finishing time, events read and notices.
+fn heard(
+    call: Call<'_>,
+    config: Config,
+    said: &[(u32, u16, &[u8])],
+    wanted: (Outcome<'_>, u64, usize, usize),
+) {
+    let config = Config {
+        listens: Some(HOIST),
+        ..config
+    };
+    let mut events = AddressedEvents::new();
+    let mut replies = Vec::new();
+    for &(time, source, reply) in said {
+        events.reply(time, replies.len() as u16, reply.len() as u16, source);
+        replies.extend_from_slice(reply);
+    }
+    let mut session = Session {
+        p2: 50,
+        p2_star: 5000,
+    };
+    let mut buffer = [0; LONGEST_REQUEST];
+    let asked = Asked::new(&call, &config);
+    let answer = asked.answer(&mut session, &mut buffer, events.as_bytes(), &replies);
+    assert_eq!(
+        (answer.outcome, answer.time, answer.events, answer.notices),
+        wanted,
+        "{call:?} {config:?} {said:x?}"
+    );
+}
+
+#[test]
+fn whatever_the_trolley_says_the_count_is_the_hoists() {
+    let trolleys: [&[u8]; 7] = [
+        TROLLEYS,
+        WAIT,
+        &[0x7f, 0x22, 0x31],
+        &[0x7f],
+        &[0x51, 0x01],
+        &[],
+        COUNT,
+    ];
+    for config in [STRICT, LENIENT, until(15)] {
+        heard(READ, config, &[(15, HOIST, COUNT)], (COUNTED, 15, 1, 0));
+        for trolley in trolleys {
+            for source in [TROLLEY, 0, 1, 0xffff] {
+                for time in [0, 8, 15] {
+                    let said = [(time, source, trolley), (15, HOIST, COUNT)];
+                    heard(READ, config, &said, (COUNTED, 15, 2, 0));
+                }
+                // Behind the hoist's it is not read.
+                let said = [(15, HOIST, COUNT), (15, source, trolley)];
+                heard(READ, config, &said, (COUNTED, 15, 1, 0));
+            }
+        }
+    }
+}
+
+#[test]
+fn a_foreign_reply_moves_no_deadline_and_breaks_no_silence() {
+    let late = [(10, TROLLEY, WAIT), (51, HOIST, COUNT)];
+    heard(READ, STRICT, &late, (Outcome::Timeout, 50, 1, 0));
+    let waited = [(10, HOIST, WAIT), (20, TROLLEY, WAIT), (5011, HOIST, COUNT)];
+    heard(READ, STRICT, &waited, (Outcome::Timeout, 5010, 2, 1));
+    // Read up to the deadline, and up to T.
+    let silent = (Outcome::Timeout, 50, 1, 0);
+    heard(READ, STRICT, &[(50, TROLLEY, COUNT)], silent);
+    let unread = (Outcome::Timeout, 50, 0, 0);
+    heard(READ, STRICT, &[(51, TROLLEY, COUNT)], unread);
+    let cut = [(20, TROLLEY, COUNT), (40, TROLLEY, COUNT)];
+    heard(READ, until(30), &cut, (Outcome::Timeout, 30, 1, 0));
+    // Under suppression.
+    let positive: &[u8] = &[0x51, 0x01];
+    let notice: &[u8] = &[0x7f, 0x11, 0x78];
+    for trolley in [positive, notice] {
+        for config in [STRICT, LENIENT] {
+            let said = [(10, TROLLEY, trolley)];
+            heard(RESET, config, &said, (Outcome::Suppressed, 50, 1, 0));
+        }
+    }
+    // Under a limit of notices.
+    let limited = Config {
+        notice_limit: Some(0),
+        ..STRICT
+    };
+    let said = [(10, TROLLEY, WAIT), (20, HOIST, COUNT)];
+    heard(READ, limited, &said, (COUNTED, 20, 2, 0));
+    let said = [(10, TROLLEY, WAIT), (20, HOIST, WAIT)];
+    heard(READ, limited, &said, (Outcome::PendingLimit, 20, 2, 1));
+}
+
+#[test]
+fn idle_end_and_error_concern_everyone() {
+    let listening = Config {
+        listens: Some(HOIST),
+        ..STRICT
+    };
+    let asked = Asked::new(&READ, &listening);
+    let gives = |events: &AddressedEvents, replies: &[u8], outcome: Outcome<'_>, read: usize| {
+        let mut session = Session {
+            p2: 50,
+            p2_star: 5000,
+        };
+        let mut buffer = [0; 3];
+        let answer = asked.answer(&mut session, &mut buffer, events.as_bytes(), replies);
+        assert_eq!((answer.outcome, answer.events), (outcome, read));
+    };
+    let mut events = AddressedEvents::new();
+    events.idle(7).reply(7, 0, 5, TROLLEY).error(8, 0x1234);
+    gives(&events, COUNT, Outcome::Transport(0x1234), 3);
+    let mut events = AddressedEvents::new();
+    events.reply(7, 0, 5, TROLLEY).end(9);
+    gives(&events, COUNT, Outcome::Disconnected, 2);
+    // A foreign reply keeps the limits of a list: here it lies outside the reply bytes.
+    let mut events = AddressedEvents::new();
+    events.reply(7, 0, 5, HOIST).reply(8, 1, 5, TROLLEY);
+    gives(&events, COUNT, Outcome::Refused(10), 0);
+    // Another address than 0 on a kind other than a reply is refused, the one listened to also.
+    for source in [[0x07, 0xe8], [0x07, 0xe9]] {
+        for kind in 1..=3 {
+            let event = [0, 0, 0, 9, 0, kind, 0, 0, 0, 0, source[0], source[1]];
+            let mut session = Session {
+                p2: 50,
+                p2_star: 5000,
+            };
+            let outcome = asked.answer(&mut session, &mut [0; 3], &event, &[]).outcome;
+            assert_eq!(outcome, Outcome::Refused(10));
+        }
+    }
+}
+
+#[test]
+fn without_addresses_the_trolleys_count_stands_as_the_hoists() {
+    let said = [(8, TROLLEYS), (15, COUNT)];
+    let trolleys = Outcome::PositiveResponse(&[0x07, 0xd0]);
+    gives(READ, STRICT, &said, trolleys, 8);
+    let said = [(8, TROLLEY, TROLLEYS), (15, HOIST, COUNT)];
+    heard(READ, STRICT, &said, (COUNTED, 15, 2, 0));
 }
 
 #[test]

@@ -70,24 +70,24 @@ refused-anywhere l (variant.Refused n) = refl
 refused-anywhere l variant.PendingLimit = refl
 
 -- The exchange is refused exactly where the events break a limit.
-module _ (strict : Bool) (a : exchange.Asked) (overall : Option ℕ) (events replies : List ℕ) where
-  pub breaks : isRefused (guarded strict a overall events replies .outcome) ≡ true → withinLimits events replies ≡ false
+module _ (strict : Bool) (a : exchange.Asked) (overall : Option ℕ) (l : Lent) where
+  pub breaks : isRefused (guarded strict a overall (l .form) (l .listens) (l .events) (l .replies) .outcome) ≡ true → withinLimits (l .form) (l .events) (l .replies) ≡ false
   unfolding guarded
-  breaks = go (withinLimits events replies)
+  breaks = go (withinLimits (l .form) (l .events) (l .replies))
     where
-      go : (b : Bool) → isRefused (cond b (exchange.exchange strict a overall (eventsIn (lentOf [] events replies))) (answers.refusal 10) .outcome) ≡ true → b ≡ false
-      go true e = absurd (exchange-unrefused strict a overall (eventsIn (lentOf [] events replies)) (refused-test (exchange.exchange strict a overall (eventsIn (lentOf [] events replies)) .outcome) e))
+      go : (b : Bool) → isRefused (cond b (exchange.exchange strict a overall (eventsIn l)) (answers.refusal 10) .outcome) ≡ true → b ≡ false
+      go true e = absurd (exchange-unrefused strict a overall (eventsIn l) (refused-test (exchange.exchange strict a overall (eventsIn l) .outcome) e))
       go false e = refl
 
-  pub keeps : isRefused (guarded strict a overall events replies .outcome) ≡ false → withinLimits events replies ≡ true
+  pub keeps : isRefused (guarded strict a overall (l .form) (l .listens) (l .events) (l .replies) .outcome) ≡ false → withinLimits (l .form) (l .events) (l .replies) ≡ true
   unfolding guarded
-  keeps = go (withinLimits events replies)
+  keeps = go (withinLimits (l .form) (l .events) (l .replies))
     where
-      go : (b : Bool) → isRefused (cond b (exchange.exchange strict a overall (eventsIn (lentOf [] events replies))) (answers.refusal 10) .outcome) ≡ false → b ≡ true
+      go : (b : Bool) → isRefused (cond b (exchange.exchange strict a overall (eventsIn l)) (answers.refusal 10) .outcome) ≡ false → b ≡ true
       go true e = refl
       go false e = absurd (true≢false e)
 
-  pub opens : withinLimits events replies ≡ true → guarded strict a overall events replies ≡ exchange.exchange strict a overall (eventsIn (lentOf [] events replies))
+  pub opens : withinLimits (l .form) (l .events) (l .replies) ≡ true → guarded strict a overall (l .form) (l .listens) (l .events) (l .replies) ≡ exchange.exchange strict a overall (eventsIn l)
   unfolding guarded
   opens h = rw h
 
@@ -141,7 +141,7 @@ module _ (g : Given) where
   l = g .lent
 
   abbrev judged : exchange.Asked → answers.Answer
-  judged x = guarded (ask .strict) x (w .overall) (l .events) (l .replies)
+  judged x = guarded (ask .strict) x (w .overall) (l .form) (l .listens) (l .events) (l .replies)
 
   abbrev reached : answers.Answer
   reached = exchange.exchange (ask .strict) (asked w c) (w .overall) (eventsIn l)
@@ -157,7 +157,7 @@ module _ (g : Given) where
     pub turned-away : (p .refusal ≡ 0 → ⊥) → Called (ask .strict) w c l (refusedOf session (p .refusal)) (l .buffer)
     unfolding call
     turned-away h = record {
-      means = sym (refusing.refused (refuse w l) (ask .quiet) c (l .buffer) (l .events) (l .replies) right (p .refusal) told h);
+      means = sym (refusing.refused (refuse w l) (ask .quiet) c (l .buffer) (l .form) (l .events) (l .replies) right (p .refusal) told h);
       outcome = tt;
       reply = omega arith;
     }
@@ -185,9 +185,9 @@ module _ (g : Given) where
       pub turned-by-events : {b : Bool} → b ≡ isRefused (outcomeOf [] (heard .outcome)) → b ≡ true → Called (ask .strict) w c l (refusedOf session 10) (l .buffer)
       unfolding call
       turned-by-events e h =
-          let broken = breaks (ask .strict) (asked w c) (w .overall) (l .events) (l .replies) (tested e ∙ h) in
+          let broken = breaks (ask .strict) (asked w c) (w .overall) l (tested e ∙ h) in
           record {
-            means = sym (refusing.outside (refuse w l) (ask .quiet) c (l .buffer) (l .events) (l .replies) right (p .refusal) told none-yet broken);
+            means = sym (refusing.outside (refuse w l) (ask .quiet) c (l .buffer) (l .form) (l .events) (l .replies) right (p .refusal) told none-yet broken);
             outcome = tt;
             reply = omega arith;
           }
@@ -198,8 +198,8 @@ module _ (g : Given) where
       unfolding call
       carried-out {after′ = after′} {r = r} e h writes k =
           let strict = ask .strict in
-          let kept = keeps strict (asked w c) (w .overall) (l .events) (l .replies) (tested e ∙ h) in
-          let is-reached : answerOf (l .replies) heard ≡ reached = answers-it .means ∙ opens strict (asked w c) (w .overall) (l .events) (l .replies) kept in
+          let kept = keeps strict (asked w c) (w .overall) l (tested e ∙ h) in
+          let is-reached : answerOf (l .replies) heard ≡ reached = answers-it .means ∙ opens strict (asked w c) (w .overall) l kept in
           let p′ = partOf (l .replies) (heard .reply) in
           let q = outcomeOf (l .replies) (heard .outcome) in
           let headed : Headed (asked w c .sub) p′ q = subst⁻¹ (λ (x : answers.Answer). Headed (asked w c .sub) (x .reply) (x .outcome)) is-reached (exchange-headed strict (asked w c) (w .overall) (eventsIn l)) in
@@ -234,7 +234,7 @@ module _ (g : Given) where
             means =
                 whole ∙
                 ap (λ (x : answers.Answer). answered w c l (requestOf (ask .quiet) c) (after strict c x)) is-reached ∙
-                sym (refusing.accepted (refuse w l) (ask .quiet) c (l .buffer) (l .events) (l .replies) right (p .refusal) told none-yet kept);
+                sym (refusing.accepted (refuse w l) (ask .quiet) c (l .buffer) (l .form) (l .events) (l .replies) right (p .refusal) told none-yet kept);
             outcome = k .outcome .inside (answers-it .outcome);
             reply = subst⁻¹ (λ x. Inside (l .replies) x) (k .reply) (answers-it .reply);
           }

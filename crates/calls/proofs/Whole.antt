@@ -1,19 +1,22 @@
--- Of a whole call: at most one answer fits its contract, and demands 1 and 3 and the bound of a limit are carried to the code; and of two calls in a row.
+-- Of a whole call: at most one answer fits its contract, and demands 1 and 3, the bound of a limit and that foreign replies change nothing are carried to the code; and of two calls
+-- in a row.
 use Prim.Native.Nat.{ℕ, _+_, _*_, _≤_}
 use mathlib.Core.Bool.{Bool, true}
-use mathlib.Core.Path.{_≡_, sym, _∙_, ap, subst⁻¹}
+use mathlib.Core.Path.{_≡_, refl, sym, _∙_, ap, subst⁻¹}
 use mathlib.Core.Logic.{_↔_}
 use mathlib.Core.List.{List}
 use mathlib.Core.Option.{none, some}
 use Rattle.rules.specs.Answers as rules
 use Rattle.rules.specs.Calls.{Call}
-use Rattle.rules.specs.Client.{Result, eventsIn, call}
+use Rattle.rules.specs.Client.{Result, entriesIn, eventsIn, call}
 use Rattle.rules.specs.Conversations.{Conversation}
 use Rattle.rules.specs.Demand1.{Untouched}
 use Rattle.rules.specs.Demand3 as demand
+use Rattle.rules.specs.Foreign.{raised, passedOver, withAnswer, dropped}
 use Rattle.rules.specs.Settings.{Timing, Setting, Lent}
 use Rattle.rules.proofs.Demand1.{demand1}
 use Rattle.rules.proofs.Demand3.{demand3}
+use Rattle.rules.proofs.Foreign.{foreign-replies}
 use Rattle.rules.proofs.Limited.{limited-holds}
 use Rattle.exchange.specs.Meaning.{answerOf}
 use Rattle.exchange.specs.Places.{Answers}
@@ -58,6 +61,42 @@ pub finishes : {strict : Bool} {w : Setting} {c : Call} {l : Lent} {r : Answered
     → r .answer .time ≤ w .timing .p2 + k * w .timing .star
 finishes {strict} {w} {c} {l} {k = k} called e =
     subst⁻¹ (λ (y : Result). y .answer .time ≤ w .timing .p2 + k * w .timing .star) (called .means) (limited-holds .finishes strict w c l k e)
+
+-- The same answer with n more events read.
+abbrev pub reading : ℕ → Answered → Answered
+reading n r =
+    let x = r .answer in
+    record {
+      answer = record { outcome = x .outcome; time = x .time; events = x .events + n; notices = x .notices; reply = x .reply };
+      number = r .number;
+      sent = r .sent;
+      timing = r .timing;
+    }
+
+-- Request Seven, the rope-inspection theorem: whatever the trolley says, and whenever, the hoist's count is what it is without the trolley. The second call is lent what
+-- is left once foreign replies are dropped; the first has read so many events more as there were foreign replies among those that it counts, and nothing else differs.
+pub rope-inspection : {strict : Bool} {w : Setting} {c : Call} {l : Lent} {r r′ : Answered} {b b′ : List ℕ} → Called strict w c l r b → Called strict w c (dropped l) r′ b′
+    → ¬ demand.Refused (answerOf (l .replies) (r .answer) .outcome)
+    → (r ≡ reading (passedOver (l .listens) (entriesIn l) (answerOf (l .replies) (r .answer))) r′) × (b ≡ b′)
+rope-inspection {strict} {w} {c} {l} {r} {r′} {b} {b′} k k′ ok =
+    let same : answerOf (l .replies) (r .answer) ≡ call strict w c l .answer = ap (λ (y : Result). y .answer) (k .means) in
+    let n = passedOver (l .listens) (entriesIn l) (answerOf (l .replies) (r .answer)) in
+    let n′ = passedOver (l .listens) (entriesIn l) (call strict w c l .answer) in
+    let counts : n ≡ n′ = ap (passedOver (l .listens) (entriesIn l)) same in
+    let drops : call strict w c l ≡ withAnswer (call strict w c (dropped l)) (raised n′ (call strict w c (dropped l) .answer)) =
+    foreign-replies .drops strict w c l (λ z. ok (subst⁻¹ (λ (y : rules.Answer). demand.Refused (y .outcome)) same z))
+    in
+    let whole : resultOf (l .replies) r b ≡ withAnswer (resultOf (l .replies) r′ b′) (raised n (answerOf (l .replies) (r′ .answer))) =
+    k .means ∙ drops ∙ sym (λ i. withAnswer (k′ .means i) (raised (counts i) (k′ .means i .answer)))
+    in
+    let answer : r .answer ≡ reading n r′ .answer =
+    answers-unique (l .replies) (record { means = ap (λ (y : Result). y .answer) whole; outcome = k .outcome; reply = k .reply })
+    (record { means = refl; outcome = k′ .outcome; reply = k′ .reply })
+    in
+    let number = ap (λ (x : Result). x .number) whole in
+    let sent = ap (λ (x : Result). x .sent) whole in
+    let timing = timing-unique (r .timing) (r′ .timing) (ap (λ (x : Result). x .timing) whole) in
+    (λ i. record { answer = answer i; number = number i; sent = sent i; timing = timing i }, ap (λ (x : Result). x .buffer) whole)
 
 -- Two calls in a row, the second in the session that the first leaves: it runs with the timing that the first set.
 pub in-a-row : {strict strict′ : Bool} {w : Setting} {c c′ : Call} {l l′ : Lent} {r r′ : Answered} {buffer buffer′ : List ℕ} (ask : Ask) → Called strict w c l r buffer

@@ -9,10 +9,11 @@ use Rattle.rules.specs.Client.{Result}
 use Rattle.rules.specs.Client as client
 use Rattle.rules.specs.Settings as settings
 use Rattle.rules.specs.Settings.{Setting, Lent}
-use Rattle.exchange.specs.Meaning.{outcomeOf, answerOf, overallOf, limitOf, timed}
+use Rattle.exchange.specs.Meaning.{formOf, outcomeOf, answerOf, overallOf, limitOf, timed}
 use Rattle.exchange.specs.Places.{Inside, InsideOutcome}
 use Rattle.exchange.specs.States.{noPlace}
 use Rattle.exchange.specs.declared.types.Outcome.the-variants.{Refused}
+use Rattle.exchange.specs.declared.types.Channel.{Channel}
 use Rattle.exchange.specs.declared.types.Timing.{Timing}
 use Rattle.calls.specs.declared.Ask.{Ask}
 use Rattle.calls.specs.declared.Answered.{Answered}
@@ -30,8 +31,14 @@ settingOf ask session = record {
 abbrev pub inTiming : settings.Timing → Setting → Setting
 inTiming t w = record { timing = t; overall = w .overall; limit = w .limit; serverTiming = w .serverTiming; quiet = w .quiet }
 
-abbrev pub lentOf : List ℕ → List ℕ → List ℕ → Lent
-lentOf buffer events replies = record { buffer = buffer; events = events; replies = replies }
+abbrev pub lentOf : Channel → List ℕ → List ℕ → List ℕ → Lent
+lentOf channel buffer events replies = record {
+  buffer = buffer;
+  form = formOf (channel .form);
+  events = events;
+  replies = replies;
+  listens = channel .listens;
+}
 
 abbrev pub resultOf : List ℕ → Answered → List ℕ → Result
 resultOf replies r buffer = record {

@@ -1,6 +1,7 @@
 // A whole call, by value: the core that all named functions share.
 use exchange::types::Answer;
 use exchange::types::Asked;
+use exchange::types::Channel;
 use exchange::types::NoticeLimit;
 use exchange::types::Outcome;
 use exchange::types::Place;
@@ -26,6 +27,7 @@ pub struct Ask {
     pub server: bool,
     pub overall: RequestTimeout,
     pub limit: NoticeLimit,
+    pub channel: Channel,
 }
 
 // The answer, the number that calls 11 and 12 return, how many bytes were sent, and the session's timing afterwards.
@@ -138,13 +140,14 @@ pub fn run(
     events: &[u8],
     replies: &[u8],
 ) -> Answered
-    ensures { λ r. ⌜ Called (ask .strict) (settingOf ask session) (callOf (ask .call) (now (address .entry)) (now (size .entry)) (now («data» .entry))) (lentOf (now (request .entry)) (now (events .entry)) (now (replies .entry))) r (now (request .exit)) ⌝ }
+    ensures { λ r. ⌜ Called (ask .strict) (settingOf ask session) (callOf (ask .call) (now (address .entry)) (now (size .entry)) (now («data» .entry))) (lentOf (ask .channel) (now (request .entry)) (now (events .entry)) (now (replies .entry))) r (now (request .exit)) ⌝ }
 {
     let call = ask.call;
     let quiet = ask.quiet;
     let strict = ask.strict;
     let overall = ask.overall;
     let limit = ask.limit;
+    let channel = ask.channel;
     let prepared = requests::prepare(call, quiet, address, size, data, request.len());
     let number = prepared.refusal;
     if number != 0 {
@@ -157,7 +160,7 @@ pub fn run(
         timing: session,
         limit,
     };
-    let heard = exchange::exchange(strict, asked, overall, events, replies);
+    let heard = exchange::exchange(strict, asked, overall, channel, events, replies);
     let outcome = heard.outcome;
     if is_refused(outcome) {
         return refused(session, 10);
@@ -193,7 +196,7 @@ pub fn run_alfid(
     events: &[u8],
     replies: &[u8],
 ) -> Answered
-    ensures { λ r. ⌜ Called (ask .strict) (settingOf ask session) (callFrom (ask .call) (alfid address «address_width» wide) (alfid size «size_width» wide) (now («data» .entry))) (lentOf (now (request .entry)) (now (events .entry)) (now (replies .entry))) r (now (request .exit)) ⌝ }
+    ensures { λ r. ⌜ Called (ask .strict) (settingOf ask session) (callFrom (ask .call) (alfid address «address_width» wide) (alfid size «size_width» wide) (now («data» .entry))) (lentOf (ask .channel) (now (request .entry)) (now (events .entry)) (now (replies .entry))) r (now (request .exit)) ⌝ }
 {
     let call = ask.call;
     let row = row_of(call);

@@ -11,7 +11,7 @@ use lib.ListN.{length, length-append}
 use Rattle.rules.specs.Answers as answers
 use Rattle.rules.specs.Bytes.{every}
 use Rattle.rules.specs.Events as events
-use Rattle.rules.specs.Events.{Entry, eventOf, entryAt, entriesFrom, entries, sound, withinLimits}
+use Rattle.rules.specs.Events.{Form, eventSize, Entry, eventOf, entryAt, entriesFrom, entries, sound, withinLimits}
 use Rattle.rules.specs.Exchange as rules
 use Rattle.rules.specs.Exchange.{Asked, state, start, on, ends, turn, settle, silence, under, exchange}
 use Rattle.rules.specs.Limited.{spent}
@@ -28,7 +28,7 @@ use Rattle.exchange.specs.Meaning.{outcomeOf, partOf, answerOf}
 use Rattle.exchange.specs.Places.{Inside, InsideOutcome, beginning, SettlesAs, TurnsTo, Turns, Answers}
 use Rattle.exchange.specs.States.{stateOf, startOf, silenceOf, underOf}
 use Rattle.exchange.proofs.Counting.{count-none, plus-counts}
-use Rattle.exchange.proofs.Entries.{next-entry, beginning-inside, all-sound}
+use Rattle.exchange.proofs.Entries.{next-entry, beginning-inside, all-sound, few-entries}
 use Rattle.exchange.proofs.Placing.{whole-inside}
 use Rattle.exchange.proofs.Turning.{left, settle-none, settle-late, settle-on, settle-ends}
 
@@ -75,66 +75,68 @@ silence-stands overall l s = go (s .hush)
     go false = record { means = refl; time = refl; read = refl; notices = refl; reply = refl; inside = tt; placed = omega arith }
 
 -- The exchange over all events of the list.
-abbrev pub begun : Bool → Asked → List ℕ → List ℕ → rules.Settled
-begun strict a l r = settle strict a (map (eventOf r) (entries l)) (start a)
+abbrev pub begun : Bool → Asked → Form → ℕ → List ℕ → List ℕ → rules.Settled
+begun strict a form listens l r = settle strict a (map (eventOf listens r) (entries form l)) (start a)
 
 -- At event i: a state of `rules` that the code's stands for, from which the exchange over what is left is the exchange over all.
-pub record Held (strict : Bool) (a : Asked) (overall : Option ℕ) (l r : List ℕ) (n i : ℕ) (now : State) : Type 0 where
+pub record Held (strict : Bool) (a : Asked) (overall : Option ℕ) (form : Form) (listens : ℕ) (l r : List ℕ) (n i : ℕ) (now : State) : Type 0 where
   pub at : rules.State
   pub small : i ≤ n
+  pub bounded : n ≤ 512
   pub passed : length (at .read) ≡ i
   pub fewer : length (at .notices) ≤ i
   pub stands : now ≡ stateOf overall at
-  pub sound : every (sound r) (entriesFrom l (n - i) i) ≡ true
-  pub same : settle strict a (left r l n i) at ≡ begun strict a l r
+  pub sound : every (sound r) (entriesFrom form l (n - i) i) ≡ true
+  pub same : settle strict a (left form listens r l n i) at ≡ begun strict a form listens l r
 
 started : (a : Asked) (overall : Option ℕ) → startOf a ≡ stateOf overall (start a)
 started a none = refl
 started a (some overall) = refl
 
-module _ {strict : Bool} {a : Asked} (overall : Option ℕ) {l r : List ℕ} where
-  pub held-first : withinLimits l r ≡ true → {now : State} → now ≡ startOf a → Held strict a overall l r (length l / 10) 0 now
-  held-first h e = record {
+module _ {strict : Bool} {a : Asked} (overall : Option ℕ) {form : Form} {listens : ℕ} {l r : List ℕ} where
+  pub held-first : withinLimits form l r ≡ true → {n : ℕ} → n ≡ length l / eventSize form → {now : State} → now ≡ startOf a → Held strict a overall form listens l r n 0 now
+  held-first h {n} k e = record {
     at = start a;
     small = omega arith;
+    bounded = rw k (few-entries form l r h);
     passed = refl;
     fewer = omega arith;
     stands = e ∙ started a overall;
-    sound = rw sub-zero (all-sound l r h);
-    same = rw sub-zero;
+    sound = rw (sub-zero, k) (all-sound form l r h);
+    same = rw (sub-zero, k);
   }
 
-  module _ {n i : ℕ} {now : State} (held : Held strict a overall l r n i now) where
+  module _ {n i : ℕ} {now : State} (held : Held strict a overall form listens l r n i now) where
     -- Silence: its answer is the exchange's.
-    silent : {s : Settled} {v : Answer} → s ≡ silenceOf now → v ≡ underOf overall s → silence (held .at) ≡ begun strict a l r
-        → Answers r v (over strict a overall l r)
+    silent : {s : Settled} {v : Answer} → s ≡ silenceOf now → v ≡ underOf overall s → silence (held .at) ≡ begun strict a form listens l r
+        → Answers r v (over strict a overall form listens l r)
     unfolding exchange
     silent quiet u e =
         rw (u, quiet, held .stands) (subst (λ (x : rules.Settled). Answers r (underOf overall (silenceOf (stateOf overall (held .at)))) (under overall x)) e
         (under-stands overall (silence-stands overall r (held .at))))
 
-    pub no-more : {s : Settled} {v : Answer} → s ≡ silenceOf now → v ≡ underOf overall s → n ≤ i → Answers r v (over strict a overall l r)
-    no-more quiet u h = silent quiet u (sym (settle-none strict a r l n i (held .at) h) ∙ held .same)
+    pub no-more : {s : Settled} {v : Answer} → s ≡ silenceOf now → v ≡ underOf overall s → n ≤ i → Answers r v (over strict a overall form listens l r)
+    no-more quiet u h = silent quiet u (sym (settle-none strict a form listens r l n i (held .at) h) ∙ held .same)
 
-    module _ {e : Entry} (here : e ≡ entryAt l i) (more : i < n) where
+    module _ {e : Entry} (here : e ≡ entryAt form l i) (more : i < n) where
       pub too-late : {s : Settled} {v : Answer} → s ≡ silenceOf now → v ≡ underOf overall s → now .deadline < e .time
-          → Answers r v (over strict a overall l r)
+          → Answers r v (over strict a overall form listens l r)
       too-late quiet u h =
-          silent quiet u (sym (settle-late strict a r l n i (held .at) e here more (rw (ap (λ s. s .deadline) (held .stands)) at h)) ∙ held .same)
+          silent quiet u (sym (settle-late strict a form listens r l n i (held .at) e here more (rw (ap (λ s. s .deadline) (held .stands)) at h)) ∙ held .same)
 
-      rest-sound : (sound r e ≡ true) × (every (sound r) (entriesFrom l (n - (i + 1)) (i + 1)) ≡ true)
-      rest-sound = and-eq-true-iff (sound r e) _ .0 (rw (next-entry l n i e here more) at (held .sound))
+      rest-sound : (sound r e ≡ true) × (every (sound r) (entriesFrom form l (n - (i + 1)) (i + 1)) ≡ true)
+      rest-sound = and-eq-true-iff (sound r e) _ .0 (rw (next-entry form l n i e here more) at (held .sound))
 
-      module _ {x : Turn} (turns : Turns strict a overall now e r x) (early : e .time ≤ now .deadline) (room : n ≤ 18446744073709551615) where
+      module _ {x : Turn} (turns : Turns strict a overall listens now e r x) (early : e .time ≤ now .deadline) where
         -- The turn from the state where nothing was read, and the turn that is taken.
         abbrev left-over : Asked
         left-over = spent (length (held .at .notices)) a
 
         abbrev bare : rules.Turn
-        bare = turn strict left-over (state (held .at .hush) (held .at .deadline) [] []) (eventOf r e)
+        bare = turn strict left-over (state (held .at .hush) (held .at .deadline) [] []) (eventOf listens r e)
 
-        turned : (z : rules.Turn) → bare ≡ z → turn strict a (held .at) (eventOf r e) ≡ raised (held .at .read) (held .at .notices) z
-        turned z p = turn-raised strict a (held .at) (eventOf r e) ∙ ap (raised (held .at .read) (held .at .notices)) p
+        turned : (z : rules.Turn) → bare ≡ z → turn strict a (held .at) (eventOf listens r e) ≡ raised (held .at .read) (held .at .notices) z
+        turned z p = turn-raised strict a (held .at) (eventOf listens r e) ∙ ap (raised (held .at .read) (held .at .notices)) p
 
         in-time : e .time ≤ held .at .deadline
         in-time = rw (ap (λ s. s .deadline) (held .stands)) at early
@@ -142,20 +144,21 @@ module _ {strict : Bool} {a : Asked} (overall : Option ℕ) {l r : List ℕ} whe
         taken : (y : Turn) → x ≡ y → TurnsTo overall r (beginning e) (stateOf overall (held .at)) y bare
         taken y p =
             subst (λ (w : Turn). TurnsTo overall r (beginning e) (stateOf overall (held .at)) w bare) p
-            (subst (λ (s : State). Turns strict a overall s e r x) (held .stands) turns .means)
+            (subst (λ (s : State). Turns strict a overall listens s e r x) (held .stands) turns .means)
 
         -- What the code counts behind the event is what `rules` keeps there.
         counts : (ts us : List ℕ) → length ts ≤ 1 → length us ≤ i → plus overall ts (countOf overall us) ≡ countOf overall (ts ++ us)
-        counts ts us h k = plus-counts overall ts us (omega (arith, more, room))
+        counts ts us h k = plus-counts overall ts us (omega (arith, more, held .bounded))
 
-        pub after-on : {s : State} → x ≡ On s → Held strict a overall l r n (i + 1) s
-        after-on {s} p = go bare refl (turn-reads-one strict left-over (held .at .hush) (held .at .deadline) (eventOf r e)) (taken (On s) p)
+        pub after-on : {s : State} → x ≡ On s → Held strict a overall form listens l r n (i + 1) s
+        after-on {s} p = go bare refl (turn-reads-one strict left-over (held .at .hush) (held .at .deadline) (eventOf listens r e)) (taken (On s) p)
           where
             go : (z : rules.Turn) → bare ≡ z → ReadsOne z → TurnsTo overall r (beginning e) (stateOf overall (held .at)) (On s) z
-                → Held strict a overall l r n (i + 1) s
+                → Held strict a overall form listens l r n (i + 1) s
             go (on y) q one t = record {
               at = state (y .hush) (y .deadline) (y .read ++ held .at .read) (y .notices ++ held .at .notices);
               small = omega (arith, more);
+              bounded = held .bounded;
               passed = omega (arith, length-append (y .read) (held .at .read), held .passed, one .0);
               fewer = omega (arith, length-append (y .notices) (held .at .notices), held .fewer, one .1);
               stands = t ∙
@@ -164,20 +167,20 @@ module _ {strict : Bool} {a : Asked} (overall : Option ℕ) {l r : List ℕ} whe
                     counts (y .notices) (held .at .notices) (one .1) (held .fewer),
                   );
               sound = rest-sound .1;
-              same = sym (settle-on strict a r l n i (held .at) e here more _ in-time (turned (on y) q)) ∙ held .same;
+              same = sym (settle-on strict a form listens r l n i (held .at) e here more _ in-time (turned (on y) q)) ∙ held .same;
             }
             go (ends y) q one t = absurd t
 
-        pub ends-it : {s : Settled} {v : Answer} → x ≡ Ends s → v ≡ underOf overall s → Answers r v (over strict a overall l r)
+        pub ends-it : {s : Settled} {v : Answer} → x ≡ Ends s → v ≡ underOf overall s → Answers r v (over strict a overall form listens l r)
         unfolding exchange
-        ends-it {s} {v} p u = go bare refl (turn-reads-one strict left-over (held .at .hush) (held .at .deadline) (eventOf r e)) (taken (Ends s) p)
+        ends-it {s} {v} p u = go bare refl (turn-reads-one strict left-over (held .at .hush) (held .at .deadline) (eventOf listens r e)) (taken (Ends s) p)
           where
             go : (z : rules.Turn) → bare ≡ z → ReadsOne z → TurnsTo overall r (beginning e) (stateOf overall (held .at)) (Ends s) z
-                → Answers r v (under overall (begun strict a l r))
+                → Answers r v (under overall (begun strict a form listens l r))
             go (on y) q one t = absurd t
             go (ends y) q one t =
                 rw u (subst (λ (w : rules.Settled). Answers r (underOf overall s) (under overall w))
-                (sym (settle-ends strict a r l n i (held .at) e here more _ in-time (turned (ends y) q)) ∙ held .same)
+                (sym (settle-ends strict a form listens r l n i (held .at) e here more _ in-time (turned (ends y) q)) ∙ held .same)
                 (under-stands overall (record {
                   means = t .means;
                   time = t .time;

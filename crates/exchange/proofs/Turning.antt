@@ -6,13 +6,14 @@ use mathlib.Core.Logic.{_≢_}
 use mathlib.Core.Path.{_≡_, refl, sym, ap, _∙_}
 use mathlib.Core.List.{List, [], _∷_, map}
 use mathlib.Core.Option.{Option}
-use borrow.Author.Tests.{le-leb, lt-leb, eq-eqb, ne-eqb}
+use borrow.Author.Tests.{eq-eqb}
 use Rattle.rules.specs.Events as events
-use Rattle.rules.specs.Events.{Entry, eventOf, named, entryAt, entriesFrom}
+use Rattle.rules.specs.Events.{Form, Entry, eventOf, named, entryAt, entriesFrom}
 use Rattle.rules.specs.Exchange as rules
 use Rattle.rules.specs.Limited.{less, spent}
 use Rattle.rules.specs.Exchange.{Asked, allows, look, finish, on, ends, turn, silence, settle}
 use Rattle.rules.proofs.Turns as law
+use Rattle.rules.proofs.Limits.{event-time}
 use Rattle.exchange.specs.declared.types.Place.{Place}
 use Rattle.exchange.specs.declared.types.Outcome.{Outcome}
 use Rattle.exchange.specs.declared.types.Outcome.the-variants as outcome
@@ -24,9 +25,9 @@ use Rattle.exchange.specs.declared.types.State.{State}
 use Rattle.exchange.specs.declared.types.Turn.the-variants.{On, Ends}
 use Rattle.exchange.specs.Counts.{counted}
 use Rattle.exchange.specs.States.{noPlace}
-use Rattle.exchange.specs.Meaning.{outcomeOf, stepOf, partOf}
+use Rattle.exchange.specs.Meaning.{outcomeOf, stepOf, partOf, kindHeard}
 use Rattle.exchange.specs.Places.{Looked, Named, Turns}
-use Rattle.exchange.proofs.Entries.{next-entry, no-entry, time-of}
+use Rattle.exchange.proofs.Entries.{next-entry, no-entry, heard-reply, heard-idle, heard-ended, heard-failed}
 
 -- The reply that an event names is judged as the part at its place is.
 seen-as : (strict : Bool) (a : Asked) (hush : Bool) {e : Entry} {l : List ℕ} {p : Place} {s : Step} → Named l e p
@@ -53,20 +54,20 @@ finish-anywhere a l (outcome.Fault f) t = refl
 finish-anywhere a l (outcome.Refused n) t = refl
 finish-anywhere a l outcome.PendingLimit t = refl
 
-module _ {strict : Bool} {a : Asked} {overall : Option ℕ} {before : State} {e : Entry} {l : List ℕ} {read : Count}
+module _ {strict : Bool} {a : Asked} {overall : Option ℕ} {listens : ℕ} {before : State} {e : Entry} {l : List ℕ} {kind : ℕ} (heard : kind ≡ kindHeard listens e) {read : Count}
     (counts : read ≡ counted overall (e .time) (before .read)) where
-  module _ (kind : e .kind ≡ 0) {p : Place} (place : Named l e p) {s : Step} (seen : Looked l s (look strict a (before .hush) (partOf l p))) where
+  module _ (a-reply : kind ≡ 0) {p : Place} (place : Named l e p) {s : Step} (seen : Looked l s (look strict a (before .hush) (partOf l p))) where
     module _ {notices : Count} (wait : s ≡ Pending) (noted : notices ≡ counted overall (e .time) (before .notices)) where
       pub turns-notice : {more : Bool} → more ≡ allows (a .limit) (before .notices .all) → more ≡ true
-          → Turns strict a overall before e l (On (record { hush = false; deadline = e .time + a .timing .star; read = read; notices = notices }))
+          → Turns strict a overall listens before e l (On (record { hush = false; deadline = e .time + a .timing .star; read = read; notices = notices }))
       turns-notice q m = record {
-        means = rw (eq-eqb (e .kind) 0 kind, seen-spent strict a (before .notices .all) (before .hush) place seen, wait, still a (before .notices .all) q m, counts, noted);
+        means = rw (heard-reply listens l e (sym heard ∙ a-reply) .0, seen-spent strict a (before .notices .all) (before .hush) place seen, wait, still a (before .notices .all) q m, counts, noted);
       }
 
       pub turns-limit : {more : Bool} → more ≡ allows (a .limit) (before .notices .all) → more ≡ false
-          → Turns strict a overall before e l (Ends (record { outcome = PendingLimit; time = e .time; read = read; notices = notices; reply = p }))
+          → Turns strict a overall listens before e l (Ends (record { outcome = PendingLimit; time = e .time; read = read; notices = notices; reply = p }))
       turns-limit q m = record {
-        means = rw (eq-eqb (e .kind) 0 kind, seen-spent strict a (before .notices .all) (before .hush) place seen, wait, still a (before .notices .all) q m) (record {
+        means = rw (heard-reply listens l e (sym heard ∙ a-reply) .0, seen-spent strict a (before .notices .all) (before .hush) place seen, wait, still a (before .notices .all) q m) (record {
           means = refl;
           time = refl;
           read = counts;
@@ -74,14 +75,14 @@ module _ {strict : Bool} {a : Asked} {overall : Option ℕ} {before : State} {e 
           reply = place .means;
           inside = tt;
           whole = place .whole;
-          starts = omega (arith, ap (λ x. x .at) (place .means));
+          starts = rw (eq-eqb (e .kind) 0 (heard-reply listens l e (sym heard ∙ a-reply) .1)) (omega (arith, ap (λ x. x .at) (place .means)));
         });
       }
 
     pub turns-reply : {o : Outcome} {t : ℕ} → s ≡ Settles o → t ≡ finish a (outcomeOf [] o) (e .time)
-        → Turns strict a overall before e l (Ends (record { outcome = o; time = t; read = read; notices = before .notices; reply = p }))
+        → Turns strict a overall listens before e l (Ends (record { outcome = o; time = t; read = read; notices = before .notices; reply = p }))
     turns-reply {o} {t} h f = record {
-      means = rw (eq-eqb (e .kind) 0 kind, seen-spent strict a (before .notices .all) (before .hush) place seen, h) (record {
+      means = rw (heard-reply listens l e (sym heard ∙ a-reply) .0, seen-spent strict a (before .notices .all) (before .hush) place seen, h) (record {
         means = refl;
         time = f ∙ finish-anywhere a l o (e .time);
         read = counts;
@@ -89,48 +90,46 @@ module _ {strict : Bool} {a : Asked} {overall : Option ℕ} {before : State} {e 
         reply = place .means;
         inside = rw h at (seen .inside);
         whole = place .whole;
-        starts = omega (arith, ap (λ x. x .at) (place .means));
+        starts = rw (eq-eqb (e .kind) 0 (heard-reply listens l e (sym heard ∙ a-reply) .1)) (omega (arith, ap (λ x. x .at) (place .means)));
       });
     }
 
   -- An end or an error names no reply.
-  module _ (other : e .kind ≢ 0) where
-    pub turns-idle : e .kind ≡ 1
-        → Turns strict a overall before e l (On (record { hush = before .hush; deadline = before .deadline; read = read; notices = before .notices }))
-    turns-idle h = record { means = rw (ne-eqb (e .kind) 0 other, eq-eqb (e .kind) 1 h, counts) }
+  pub turns-idle : kind ≡ 1
+      → Turns strict a overall listens before e l (On (record { hush = before .hush; deadline = before .deadline; read = read; notices = before .notices }))
+  turns-idle h = record { means = rw (heard-idle listens l e (sym heard ∙ h), counts) }
 
-    module _ (no-idle : e .kind ≢ 1) where
-      pub turns-ended : e .kind ≡ 2
-          → Turns strict a overall before e l (Ends (record { outcome = Disconnected; time = e .time; read = read; notices = before .notices; reply = noPlace }))
-      turns-ended h = record {
-        means = rw (ne-eqb (e .kind) 0 other, ne-eqb (e .kind) 1 no-idle, eq-eqb (e .kind) 2 h)
-            (record { means = refl; time = refl; read = counts; notices = refl; reply = refl; inside = tt; whole = refl; starts = omega arith });
-      }
+  pub turns-ended : kind ≡ 2
+      → Turns strict a overall listens before e l (Ends (record { outcome = Disconnected; time = e .time; read = read; notices = before .notices; reply = noPlace }))
+  turns-ended h = record {
+    means = rw (heard-ended listens l e (sym heard ∙ h))
+        (record { means = refl; time = refl; read = counts; notices = refl; reply = refl; inside = tt; whole = refl; starts = omega arith });
+  }
 
-      pub turns-failed : e .kind ≢ 2
-          → Turns strict a overall before e l (Ends (record { outcome = Transport (e .size); time = e .time; read = read; notices = before .notices; reply = noPlace }))
-      turns-failed h = record {
-        means = rw (ne-eqb (e .kind) 0 other, ne-eqb (e .kind) 1 no-idle, ne-eqb (e .kind) 2 h)
-            (record { means = refl; time = refl; read = counts; notices = refl; reply = refl; inside = tt; whole = refl; starts = omega arith });
-      }
+  pub turns-failed : kind ≢ 0 → kind ≢ 1 → kind ≢ 2
+      → Turns strict a overall listens before e l (Ends (record { outcome = Transport (e .size); time = e .time; read = read; notices = before .notices; reply = noPlace }))
+  turns-failed h k m = record {
+    means = rw (heard-failed listens l e (λ z. h (heard ∙ z)) (λ z. k (heard ∙ z)) (λ z. m (heard ∙ z)))
+        (record { means = refl; time = refl; read = counts; notices = refl; reply = refl; inside = tt; whole = refl; starts = omega arith });
+  }
 
 -- The events that are left from number i on, of n.
-abbrev pub left : List ℕ → List ℕ → ℕ → ℕ → List events.Event
-left r l n i = map (eventOf r) (entriesFrom l (n - i) i)
+abbrev pub left : Form → ℕ → List ℕ → List ℕ → ℕ → ℕ → List events.Event
+left form listens r l n i = map (eventOf listens r) (entriesFrom form l (n - i) i)
 
-module _ (strict : Bool) (a : Asked) (r l : List ℕ) (n i : ℕ) (s : rules.State) where
-  pub settle-none : n ≤ i → settle strict a (left r l n i) s ≡ silence s
-  settle-none h = rw (no-entry l n i h) (law.settle-late strict a s [] tt)
+module _ (strict : Bool) (a : Asked) (form : Form) (listens : ℕ) (r l : List ℕ) (n i : ℕ) (s : rules.State) where
+  pub settle-none : n ≤ i → settle strict a (left form listens r l n i) s ≡ silence s
+  settle-none h = rw (no-entry form l n i h) (law.settle-late strict a s [] tt)
 
-  module _ (e : Entry) (here : e ≡ entryAt l i) (more : i < n) where
-    in-time : {d : ℕ} → e .time ≤ d → events.timeOf (eventOf r e) ≤ d
-    in-time h = rw (time-of r e) h
+  module _ (e : Entry) (here : e ≡ entryAt form l i) (more : i < n) where
+    in-time : {d : ℕ} → e .time ≤ d → events.timeOf (eventOf listens r e) ≤ d
+    in-time h = rw (event-time listens r e) h
 
-    pub settle-late : s .deadline < e .time → settle strict a (left r l n i) s ≡ silence s
-    settle-late h = rw (next-entry l n i e here more) (law.settle-late strict a s (eventOf r e ∷ left r l n (i + 1)) (rw (time-of r e) h))
+    pub settle-late : s .deadline < e .time → settle strict a (left form listens r l n i) s ≡ silence s
+    settle-late h = rw (next-entry form l n i e here more) (law.settle-late strict a s (eventOf listens r e ∷ left form listens r l n (i + 1)) (rw (event-time listens r e) h))
 
-    pub settle-on : (s′ : rules.State) → e .time ≤ s .deadline → turn strict a s (eventOf r e) ≡ on s′ → settle strict a (left r l n i) s ≡ settle strict a (left r l n (i + 1)) s′
-    settle-on s′ h t = rw (next-entry l n i e here more) (law.settle-on strict a s s′ (eventOf r e) (left r l n (i + 1)) (in-time h) t)
+    pub settle-on : (s′ : rules.State) → e .time ≤ s .deadline → turn strict a s (eventOf listens r e) ≡ on s′ → settle strict a (left form listens r l n i) s ≡ settle strict a (left form listens r l n (i + 1)) s′
+    settle-on s′ h t = rw (next-entry form l n i e here more) (law.settle-on strict a s s′ (eventOf listens r e) (left form listens r l n (i + 1)) (in-time h) t)
 
-    pub settle-ends : (x : rules.Settled) → e .time ≤ s .deadline → turn strict a s (eventOf r e) ≡ ends x → settle strict a (left r l n i) s ≡ x
-    settle-ends x h t = rw (next-entry l n i e here more) (law.settle-ends strict a s x (eventOf r e) (left r l n (i + 1)) (in-time h) t)
+    pub settle-ends : (x : rules.Settled) → e .time ≤ s .deadline → turn strict a s (eventOf listens r e) ≡ ends x → settle strict a (left form listens r l n i) s ≡ x
+    settle-ends x h t = rw (next-entry form l n i e here more) (law.settle-ends strict a s x (eventOf listens r e) (left form listens r l n (i + 1)) (in-time h) t)

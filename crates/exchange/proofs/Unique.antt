@@ -120,7 +120,7 @@ fault-unique f g e = sym (fault-back f) ∙ ap faultFrom e ∙ fault-back g
 
 -- `event_at`
 pub event-unique : (e f : Event) → entryOf e ≡ entryOf f → e ≡ f
-event-unique e f h = ap (λ (x : Entry). record { time = x .time; kind = x .kind; offset = x .offset; size = x .size }) h
+event-unique e f h = ap (λ (x : Entry). record { time = x .time; kind = x .kind; offset = x .offset; size = x .size; source = x .source }) h
 
 module _ (l : List ℕ) where
   place-back : (p : Place) → length (partOf l p .bytes) ≡ p .len → placeFrom (partOf l p) ≡ p
@@ -186,5 +186,5 @@ module _ (l : List ℕ) where
   turns-to-unique overall begins before (On s) (Ends t) (exchange.on z) h k = absurd k
   turns-to-unique overall begins before (Ends s) (On t) (exchange.ends z) h k = absurd k
 
-  pub turns-unique : {strict : Bool} {a : exchange.Asked} {overall : Option ℕ} {before : State} {e : Entry} {x y : Turn} → Turns strict a overall before e l x → Turns strict a overall before e l y → x ≡ y
+  pub turns-unique : {strict : Bool} {a : exchange.Asked} {overall : Option ℕ} {listens : ℕ} {before : State} {e : Entry} {x y : Turn} → Turns strict a overall listens before e l x → Turns strict a overall listens before e l y → x ≡ y
   turns-unique {overall = overall} {before = before} {e = e} {x = x} {y = y} h k = turns-to-unique overall _ before x y _ (h .means) (k .means)

@@ -1,12 +1,14 @@
 -- "Where an answer is an enum, a definition gives this paper's number and values for each case of the enum." Each value of the code, as `rules` says it.
 use Prim.Native.Nat.{ℕ}
+use mathlib.Core.Bool.{cond}
 use mathlib.Core.List.{List}
 use mathlib.Core.Option.{Option, none, some}
 use lib.ListN.{take, drop}
 use Rattle.rules.specs.Answers as rules
 use Rattle.rules.specs.Answers.{Part, part, deviation, deviation8, badLength, overflow, positive, suppressed, negative, timeout, pendingLimit, disconnected, transport, fault, refused}
 use Rattle.rules.specs.InOrder.{Check, judge}
-use Rattle.rules.specs.Events.{Entry}
+use Rattle.rules.specs.Events as events
+use Rattle.rules.specs.Events.{Entry, foreign}
 use Rattle.rules.specs.Exchange as exchange
 use Rattle.rules.specs.Settings as settings
 use Rattle.exchange.specs.declared.error.Maximum.{Maximum}
@@ -26,6 +28,8 @@ use Rattle.exchange.specs.declared.types.Timing.{Timing}
 use Rattle.exchange.specs.declared.types.NoticeLimit.{NoticeLimit}
 use Rattle.exchange.specs.declared.types.NoticeLimit.the-variants.{Unlimited, AtMost}
 use Rattle.exchange.specs.declared.types.Asked.{Asked}
+use Rattle.exchange.specs.declared.types.Form.{Form}
+use Rattle.exchange.specs.declared.types.Form.the-variants.{Plain, Addressed}
 use Rattle.exchange.specs.declared.types.Event.{Event}
 use Rattle.exchange.specs.declared.types.Outcome.{Outcome}
 use Rattle.exchange.specs.declared.types.Outcome.the-variants as outcome
@@ -131,5 +135,13 @@ limitOf (AtMost k) = some k
 abbrev pub askedOf : Asked → exchange.Asked
 askedOf a = record { sid = a .sid; sub = subOf (a .sub); timing = timed (a .timing); limit = limitOf (a .limit) }
 
+abbrev pub formOf : Form → events.Form
+formOf Plain = events.plain
+formOf Addressed = events.addressed
+
 abbrev pub entryOf : Event → Entry
-entryOf e = record { time = e .time; kind = e .kind; offset = e .offset; size = e .size }
+entryOf e = record { time = e .time; kind = e .kind; offset = e .offset; size = e .size; source = e .source }
+
+-- The kind as which an entry is heard: a foreign reply is an idle event.
+abbrev pub kindHeard : ℕ → Entry → ℕ
+kindHeard listens e = cond (foreign listens e) 1 (e .kind)

@@ -88,5 +88,5 @@ TurnsTo overall replies begins before (Ends s) (exchange.on x) = ⊥
 TurnsTo overall replies begins before (Ends s) (exchange.ends x) = SettlesAs overall replies begins before s x
 
 -- One event in time, whatever was read before it: `rules`' turn from the state where nothing was, with what is left of the limit.
-pub record Turns (strict : Bool) (a : exchange.Asked) (overall : Option ℕ) (s : State) (e : Entry) (replies : List ℕ) (r : Turn) : Type 0 where
-  pub means : TurnsTo overall replies (beginning e) s r (exchange.turn strict (spent (s .notices .all) a) (exchange.state (s .hush) (s .deadline) [] []) (eventOf replies e))
+pub record Turns (strict : Bool) (a : exchange.Asked) (overall : Option ℕ) (listens : ℕ) (s : State) (e : Entry) (replies : List ℕ) (r : Turn) : Type 0 where
+  pub means : TurnsTo overall replies (beginning e) s r (exchange.turn strict (spent (s .notices .all) a) (exchange.state (s .hush) (s .deadline) [] []) (eventOf listens replies e))

@@ -1,39 +1,72 @@
-// The event list as it is lent, ten bytes to an event, and the limits whose breach is refusal 10.
+// The event list as it is lent, in either form, and the limits whose breach is refusal 10.
 use crate::types::Event;
+use crate::types::Form;
 use crate::types::Place;
 use wire::part;
 use wire::u16_at;
 use wire::u32_at;
 ghost use mathlib.Core.Bool.{Bool};
 ghost use mathlib.Core.Path.{_≡_};
+ghost use Prim.Native.Nat.{_/_};
+ghost use lib.ListN.{length};
 ghost use Rattle.rules.specs.Bytes.{every, isByte};
-ghost use Rattle.rules.specs.Events.{entryAt, withinLimits};
+ghost use Rattle.rules.specs.Events.{eventSize, entryAt, withinLimits};
 ghost use Rattle.rules.specs.Events as rules;
-ghost use Rattle.exchange.specs.Meaning.{entryOf};
+ghost use Rattle.exchange.specs.Meaning.{formOf, entryOf, kindHeard};
 ghost use Rattle.exchange.specs.Places.{Named};
 
-// "Event, 10 bytes"
-pub const EVENT_SIZE: usize = 10;
-
-// Event number `i`. Bytes past the end read as 0.
-pub fn event_at(events: &[u8], i: usize) -> Event
-    ensures { λ r. ⌜ entryOf r ≡ entryAt (now (events .entry)) i ⌝ }
+// "Event, 10 bytes"; "12-byte events with the address last"
+pub fn event_size(form: Form) -> usize
+    ensures { λ r. ⌜ r ≡ eventSize (formOf form) ⌝ }
 {
-    if i > events.len() / EVENT_SIZE {
+    match form {
+        Form::Plain => 10,
+        Form::Addressed => 12,
+    }
+}
+
+// How many whole events there are.
+pub fn event_count(form: Form, events: &[u8]) -> usize
+    ensures { λ r. ⌜ r ≡ length (now (events .entry)) / eventSize (formOf form) ⌝ }
+{
+    let size = event_size(form);
+    events.len() / size
+}
+
+// Event number `i`. Bytes past the end read as 0, and so does the address of an event that has none.
+pub fn event_at(form: Form, events: &[u8], i: usize) -> Event
+    ensures { λ r. ⌜ entryOf r ≡ entryAt (formOf form) (now (events .entry)) i ⌝ }
+{
+    if i > event_count(form, events) {
         return Event {
             time: 0,
             kind: 0,
             offset: 0,
             size: 0,
+            source: 0,
         };
     }
-    let entry = part(events, i * EVENT_SIZE, EVENT_SIZE);
+    let size = event_size(form);
+    let entry = part(events, i * size, size);
     Event {
         time: u32_at(entry, 0),
         kind: u16_at(entry, 4),
         offset: u16_at(entry, 6),
         size: u16_at(entry, 8),
+        source: u16_at(entry, 10),
     }
+}
+
+// "Replies from other addresses are read and passed over": a foreign reply is heard as an idle event.
+pub fn kind_heard(listens: u16, event: Event) -> u16
+    ensures { λ r. ⌜ r ≡ kindHeard listens (entryOf event) ⌝ }
+{
+    if event.kind == 0 {
+        if event.source != listens {
+            return 1;
+        }
+    }
+    event.kind
 }
 
 // The part that a reply names, cut at the end of the lent bytes.
@@ -48,12 +81,16 @@ pub fn named(event: Event, replies: &[u8]) -> Place
     }
 }
 
-// "a reply has 0..4,095 bytes"; a known kind; a reply inside the lent bytes. (Times and numbers fit by their types.)
+// "a reply has 0..4,095 bytes"; a known kind; a reply inside the lent bytes; no address on any other kind. (Times and numbers fit by
+// their types.)
 fn sound(event: Event, replies: &[u8]) -> bool
     requires { ⌜ every isByte (now replies) ≡ Bool.true ⌝ }
     ensures { λ r. ⌜ r ≡ rules.sound (now (replies .entry)) (entryOf event) ⌝ }
 {
     if event.kind != 0 {
+        if event.source != 0 {
+            return false;
+        }
         return event.kind <= 3;
     }
     if event.size > 4095 {
@@ -63,20 +100,21 @@ fn sound(event: Event, replies: &[u8]) -> bool
 }
 
 // "At most 512 events"; "Times in the list never fall."; "Every event is checked, those never read too."
-pub fn within_limits(events: &[u8], replies: &[u8]) -> bool
-    ensures { λ r. ⌜ r ≡ withinLimits (now (events .entry)) (now (replies .entry)) ⌝ }
+pub fn within_limits(form: Form, events: &[u8], replies: &[u8]) -> bool
+    ensures { λ r. ⌜ r ≡ withinLimits (formOf form) (now (events .entry)) (now (replies .entry)) ⌝ }
 {
-    if events.len() % EVENT_SIZE != 0 {
+    let size = event_size(form);
+    if events.len() % size != 0 {
         return false;
     }
-    let n = events.len() / EVENT_SIZE;
+    let n = event_count(form, events);
     if n > 512 {
         return false;
     }
     let mut last = 0;
     let mut i = 0;
     while i < n {
-        let event = event_at(events, i);
+        let event = event_at(form, events, i);
         if event.time < last {
             return false;
         }

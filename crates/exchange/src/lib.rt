@@ -1,12 +1,14 @@
 // The exchange over a lent event list: "The exchange reads until one event settles it".
-use events::EVENT_SIZE;
 use events::event_at;
+use events::event_count;
+use events::kind_heard;
 use events::named;
 use events::within_limits;
 use judging::look;
 use judging::suppresses;
 use types::Answer;
 use types::Asked;
+use types::Channel;
 use types::Count;
 use types::Event;
 use types::NoticeLimit;
@@ -22,7 +24,7 @@ ghost use mathlib.Core.Bool.{Bool};
 ghost use mathlib.Core.List.{[]};
 ghost use Rattle.rules.specs.Events.{withinLimits};
 ghost use Rattle.rules.specs.Exchange as rules;
-ghost use Rattle.exchange.specs.Meaning.{askedOf, limitOf, overallOf, entryOf, outcomeOf};
+ghost use Rattle.exchange.specs.Meaning.{formOf, askedOf, limitOf, overallOf, entryOf, outcomeOf};
 ghost use Rattle.exchange.specs.Counts.{inTime, oneMore, counted};
 ghost use Rattle.exchange.specs.States.{startOf, silenceOf, underOf};
 ghost use Rattle.exchange.specs.Places.{Turns, Answers};
@@ -128,13 +130,14 @@ pub fn turn(
     strict: bool,
     asked: Asked,
     overall: RequestTimeout,
+    listens: u16,
     state: State,
     event: Event,
     replies: &[u8],
 ) -> Turn
-    ensures { λ r. ⌜ Turns strict (askedOf asked) (overallOf overall) state (entryOf event) (now (replies .entry)) r ⌝ }
+    ensures { λ r. ⌜ Turns strict (askedOf asked) (overallOf overall) listens state (entryOf event) (now (replies .entry)) r ⌝ }
 {
-    let kind = event.kind;
+    let kind = kind_heard(listens, event);
     let time = event.time as u64;
     let hush = state.hush;
     let notices = state.notices;
@@ -264,26 +267,29 @@ fn settle(
     strict: bool,
     asked: Asked,
     overall: RequestTimeout,
+    channel: Channel,
     events: &[u8],
     replies: &[u8],
 ) -> Answer
-    requires { ⌜ withinLimits (now events) (now replies) ≡ Bool.true ⌝ }
-    ensures { λ r. ⌜ Answers (now (replies .entry)) r (over strict (askedOf asked) (overallOf overall) (now (events .entry)) (now (replies .entry))) ⌝ }
+    requires { ⌜ withinLimits (formOf (channel .form)) (now events) (now replies) ≡ Bool.true ⌝ }
+    ensures { λ r. ⌜ Answers (now (replies .entry)) r (over strict (askedOf asked) (overallOf overall) (formOf (channel .form)) (channel .listens) (now (events .entry)) (now (replies .entry))) ⌝ }
 {
-    let n = events.len() / EVENT_SIZE;
+    let form = channel.form;
+    let listens = channel.listens;
+    let n = event_count(form, events);
     let mut i = 0;
     let mut state = start(asked);
     let answer = loop {
         if i >= n {
             break under(overall, silence(state));
         }
-        let event = event_at(events, i);
+        let event = event_at(form, events, i);
         let time = event.time as u64;
         if time > state.deadline {
             break under(overall, silence(state));
         }
         i += 1;
-        match turn(strict, asked, overall, state, event, replies) {
+        match turn(strict, asked, overall, listens, state, event, replies) {
             Turn::On(next) => state = next,
             Turn::Ends(settled) => break under(overall, settled),
         }
@@ -296,12 +302,14 @@ pub fn exchange(
     strict: bool,
     asked: Asked,
     overall: RequestTimeout,
+    channel: Channel,
     events: &[u8],
     replies: &[u8],
 ) -> Answer
-    ensures { λ r. ⌜ Answers (now (replies .entry)) r (guarded strict (askedOf asked) (overallOf overall) (now (events .entry)) (now (replies .entry))) ⌝ }
+    ensures { λ r. ⌜ Answers (now (replies .entry)) r (guarded strict (askedOf asked) (overallOf overall) (formOf (channel .form)) (channel .listens) (now (events .entry)) (now (replies .entry))) ⌝ }
 {
-    if !within_limits(events, replies) {
+    let form = channel.form;
+    if !within_limits(form, events, replies) {
         return Answer {
             outcome: Outcome::Refused(10),
             time: 0,
@@ -310,5 +318,5 @@ pub fn exchange(
             reply: Place::NOWHERE,
         };
     }
-    settle(strict, asked, overall, events, replies)
+    settle(strict, asked, overall, channel, events, replies)
 }

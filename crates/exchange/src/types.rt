@@ -42,12 +42,25 @@ pub struct Asked {
     pub limit: NoticeLimit,
 }
 
-// "Event, 10 bytes: time u32, kind u16, offset into reply bytes u16, length u16; kind 3 puts its number in length."
+// How events are lent: without a source address, or with one.
+pub enum Form {
+    Plain,
+    Addressed,
+}
+
+// How the events of a channel are lent, and the address that the call listens to.
+pub struct Channel {
+    pub form: Form,
+    pub listens: u16,
+}
+
+// "time u32, kind u16, offset into reply bytes u16, length u16; kind 3 puts its number in length"; then the source address u16.
 pub struct Event {
     pub time: u32,
     pub kind: u16,
     pub offset: u16,
     pub size: u16,
+    pub source: u16,
 }
 
 pub enum Outcome {

@@ -1,4 +1,4 @@
--- Demands 1 and 3 of document 01 and the bound of request Nine, carried to the fifteen numbers of the door: of any numbers and request that fit its contract with result 0.
+-- Demands 1 and 3 of document 01, the bound of request Nine and the rope-inspection theorem of request Seven, carried to the fifteen numbers of the door: of any numbers and request that fit its contract with result 0.
 use Prim.Native.Nat.{ℕ, _+_, _*_, _≤_}
 use native.Mathlib.Omega.{arith}
 use mathlib.Core.Bool.{Bool, true, false, cond, false≢true}
@@ -7,18 +7,20 @@ use mathlib.Core.Logic.{_↔_}
 use mathlib.Core.List.{List, [], _∷_}
 use mathlib.Core.Option.{Option, none, some}
 use lib.Dec.{eqb, leb}
-use lib.ListN.{take, getD}
+use lib.ListN.{take, drop, getD}
 use Rattle.rules.specs.Answers.{Answer, Outcome, positive, suppressed, negative, timeout, pendingLimit, disconnected, transport, fault, refused, deviation, deviation8, badLength, overflow}
 use Rattle.rules.specs.Calls.{Call, Field}
 use Rattle.rules.specs.Client.{Result, eventsIn, call}
 use Rattle.rules.specs.Conversations.{Conversation}
 use Rattle.rules.specs.Demand1.{Numbered, Untouched}
 use Rattle.rules.specs.Demand3.{Named, Refused, Answers}
+use Rattle.rules.specs.Foreign.{dropped}
 use Rattle.rules.specs.Logs.{Header, flag, settingOf}
 use Rattle.rules.specs.Limited.{inLimit}
 use Rattle.rules.specs.Settings.{Timing, Setting, Lent}
 use Rattle.rules.proofs.Demand1.{demand1}
 use Rattle.rules.proofs.Demand3.{demand3}
+use Rattle.rules.proofs.Foreign.{foreign-replies}
 use Rattle.rules.proofs.Limited.{limited-holds}
 use Rattle.host.specs.Numbers.{valuesOf, answerNumbers, numbersOf}
 use Rattle.log_call.specs.Asking.{chosen}
@@ -146,3 +148,21 @@ module _ {b : Bool} (h : Header) (k : ℕ) (a s : Field) (d : List ℕ) (l : Len
 
     pub held-one : (x : Answer) → Held x → answerIn told′ ≡ answerNumbers x
     held-one x k = answer-is ∙ ap answerNumbers (strictly x .1 k .0)
+
+-- The rope-inspection theorem: of the fifteen numbers of a call that is not refused all but the sixth, the count of events read, are those of the same call without the
+-- foreign replies, and so is the request.
+pub rope-inspection : {b b′ : Bool} (h : Header) (k : ℕ) (a s : Field) (d : List ℕ) (l : Lent) {told after told′ after′ told₀ told₀′ : List ℕ}
+    → Served b (asked h k a s d l) (l .buffer) told₀ 0 after told → Served b′ (asked h k a s d (dropped l)) (l .buffer) told₀′ 0 after′ told′
+    → eqb (outcomeIn told) 9 ≡ false → (take 5 told ≡ take 5 told′) × (drop 6 told ≡ drop 6 told′) × (after ≡ after′)
+unfolding numbersOf
+rope-inspection h k a s d l p p′ ok =
+    let x = asked h k a s d l in
+    let x′ = asked h k a s d (dropped l) in
+    let unrefused = not-refused (x .answer .outcome) (ap (λ (y : ℕ). eqb y 9) (sym (outcome-is h k a s d l p)) ∙ ok) in
+    let drops = foreign-replies .drops (eqb (flag 1 h) 1) (inLimit (limitIn k) (settingOf h)) (chosen h a s d) l unrefused in
+    let numbers = numbers-are h k a s d l p ∙ ap numbersOf drops in
+    let numbers′ = numbers-are h k a s d (dropped l) p′ in (
+      ap (take 5) numbers ∙ sym (ap (take 5) numbers′),
+      ap (drop 6) numbers ∙ sym (ap (drop 6) numbers′),
+      request-is h k a s d l p ∙ ap (λ (y : Result). y .buffer) drops ∙ sym (request-is h k a s d (dropped l) p′),
+    )

@@ -8,7 +8,7 @@ use lib.Dec.{leb, eqb}
 use lib.ListN.{length, take, drop}
 use Rattle.rules.specs.Calls.{Field, given, alfid}
 use Rattle.rules.specs.Client.{Result, call}
-use Rattle.rules.specs.Logs.{Header, flag, usesOf, fieldsOk, settingOf}
+use Rattle.rules.specs.Logs.{Header, formIn, flag, usesOf, fieldsOk, settingOf}
 use Rattle.rules.specs.Limited.{inLimit}
 use Rattle.rules.specs.Settings.{Lent}
 use Rattle.exchange.specs.declared.types.NoticeLimit.{NoticeLimit}
@@ -17,17 +17,21 @@ use Rattle.calls.specs.declared.Ask.{Ask}
 use Rattle.log_call.specs.Asking.{chosen}
 use Rattle.host.specs.Numbers.{numbersOf}
 
+-- Version 2 has its events addressed.
+abbrev pub versionOf : Bool → ℕ
+versionOf addressed = cond addressed 2 1
+
 -- The numbers as the header of a log has them. The log's areas are slices here, and the header counts no data bytes.
-abbrev pub fields : ℕ → ℕ → ℕ → ℕ → ℕ → ℕ → ℕ → ℕ → ℕ → Header
-fields c flags value sub a s p2 star overall = record {
-  version = 1;
+abbrev pub fields : ℕ → ℕ → ℕ → ℕ → ℕ → ℕ → ℕ → ℕ → ℕ → Bool → ℕ → Header
+fields c flags value sub a s p2 star overall addressed listens = record {
+  version = versionOf addressed;
   call = c;
   flags = flags;
   value = value;
   sub = sub;
   addressLength = a;
   sizeLength = s;
-  unused = 0;
+  listens = listens;
   arguments = a + s;
   argumentsAt = 0;
   events = 0;
@@ -76,6 +80,16 @@ dataIn h l = drop (h .addressLength + h .sizeLength) l
 abbrev pub asked : Header → ℕ → Field → Field → List ℕ → Lent → Result
 asked h k a s d l = call (eqb (flag 1 h) 1) (inLimit (limitIn k) (settingOf h)) (chosen h a s d) l
 
+-- What is lent, in the form that the fields say.
+abbrev pub lentIn : Header → List ℕ → List ℕ → List ℕ → Lent
+lentIn h buffer events replies = record {
+  buffer = buffer;
+  form = formIn h;
+  events = events;
+  replies = replies;
+  listens = h .listens;
+}
+
 -- The code's ask, with this limit.
 abbrev pub limitFor : ℕ → NoticeLimit
 limitFor k = cond (leb k 255) (AtMost k) Unlimited
@@ -88,6 +102,7 @@ limitedTo limit ask = record {
   server = ask .server;
   overall = ask .overall;
   limit = limit;
+  channel = ask .channel;
 }
 
 -- 0 where the numbers ask a call: its request stands in the buffer by document 01's rules, and the answer has its numbers. 1 where they ask none: nothing is touched.
@@ -97,10 +112,10 @@ pub record Served (asks : Bool) (x : Result) (before told : List ℕ) (r : ℕ) 
   pub answer : told′ ≡ cond asks (numbersOf x) told
 
 -- With argument bytes; in the `alfid` form with address and size as numbers v and u of widths w and w′, the wide setting, and data.
-abbrev pub InBytes : Header → ℕ → List ℕ → Lent → List ℕ → ℕ → List ℕ → List ℕ → Type 0
-InBytes h k l lent answer r request′ answer′ =
-    Served (asksOne h k (length l)) (asked h k (addressIn h l) (sizeIn h l) (dataIn h l) lent) (lent .buffer) answer r request′ answer′
+abbrev pub InBytes : Header → ℕ → List ℕ → List ℕ → List ℕ → List ℕ → List ℕ → ℕ → List ℕ → List ℕ → Type 0
+InBytes h k l request events replies answer r request′ answer′ =
+    Served (asksOne h k (length l)) (asked h k (addressIn h l) (sizeIn h l) (dataIn h l) (lentIn h request events replies)) request answer r request′ answer′
 
-abbrev pub InNumbers : Header → ℕ → ℕ → ℕ → ℕ → ℕ → Bool → List ℕ → Lent → List ℕ → ℕ → List ℕ → List ℕ → Type 0
-InNumbers h k v u w w′ wide d lent answer r request′ answer′ =
-    Served (hasAlfid (h .call) && asksOne h k (length d)) (asked h k (alfid v w wide) (alfid u w′ wide) d lent) (lent .buffer) answer r request′ answer′
+abbrev pub InNumbers : Header → ℕ → ℕ → ℕ → ℕ → ℕ → Bool → List ℕ → List ℕ → List ℕ → List ℕ → List ℕ → ℕ → List ℕ → List ℕ → Type 0
+InNumbers h k v u w w′ wide d request events replies answer r request′ answer′ =
+    Served (hasAlfid (h .call) && asksOne h k (length d)) (asked h k (alfid v w wide) (alfid u w′ wide) d (lentIn h request events replies)) request answer r request′ answer′

@@ -11,10 +11,16 @@ use wire::part;
 ghost use mathlib.Core.Path.{_≡_};
 ghost use Rattle.rules.specs.Codes.{nameNumber};
 ghost use Rattle.logs.specs.Layout.{said};
-ghost use Rattle.calls.specs.Meaning.{lentOf};
-ghost use Rattle.host.specs.Door.{fields, isLimit, fits, limitFor, limitedTo, hasAlfid, InBytes, InNumbers};
+ghost use Rattle.host.specs.Door.{versionOf, fields, isLimit, fits, limitFor, limitedTo, hasAlfid, InBytes, InNumbers};
 
 mod numbers;
+
+// Version 2 has its events addressed.
+fn version_of(addressed: bool) -> u16
+    ensures { λ r. ⌜ r ≡ versionOf addressed ⌝ }
+{
+    if addressed { 2 } else { 1 }
+}
 
 fn fields(
     call: u8,
@@ -26,18 +32,20 @@ fn fields(
     p2: u32,
     star: u32,
     overall: u32,
+    addressed: bool,
+    listens: u16,
 ) -> Header
-    ensures { λ r. ⌜ said r ≡ fields call flags value sub «address_length» «size_length» p2 star overall ⌝ }
+    ensures { λ r. ⌜ said r ≡ fields call flags value sub «address_length» «size_length» p2 star overall addressed listens ⌝ }
 {
     Header {
-        version: 1,
+        version: version_of(addressed),
         call,
         flags,
         value,
         sub,
         address_length,
         size_length,
-        unused: 0,
+        listens,
         arguments: address_length as u16 + size_length as u16,
         arguments_at: 0,
         events: 0,
@@ -96,6 +104,7 @@ fn limited(ask: Ask, limit: u16) -> Ask
     let call = ask.call;
     let overall = ask.overall;
     let limit = limit_for(limit);
+    let channel = ask.channel;
     Ask {
         call,
         quiet: ask.quiet,
@@ -103,6 +112,7 @@ fn limited(ask: Ask, limit: u16) -> Ask
         server: ask.server,
         overall,
         limit,
+        channel,
     }
 }
 
@@ -118,7 +128,8 @@ fn has_alfid(call: u8) -> bool
     }
 }
 
-// The numbers and flags are those of the log's header, beside them the limit of notices; `arguments` are address, size and data.
+// The numbers and flags are those of the log's header, beside them the limit of notices; `addressed` says that an event has twelve bytes, its source address last, and
+// `listens` which address is listened to. `arguments` are address, size and data.
 #[no_mangle]
 pub extern "C" fn bintrochis_call(
     call: u8,
@@ -131,13 +142,15 @@ pub extern "C" fn bintrochis_call(
     p2_star: u32,
     overall: u32,
     limit: u16,
+    addressed: bool,
+    listens: u16,
     arguments: &[u8],
     request: &mut [u8],
     events: &[u8],
     replies: &[u8],
     answer: &mut [u64; 15],
 ) -> u8
-    ensures { λ r. ⌜ InBytes (fields call flags value sub «address_length» «size_length» p2 «p2_star» overall) limit (now (arguments .entry)) (lentOf (now (request .entry)) (now (events .entry)) (now (replies .entry))) (now (answer .entry)) r (now (request .exit)) (now (answer .exit)) ⌝ }
+    ensures { λ r. ⌜ InBytes (fields call flags value sub «address_length» «size_length» p2 «p2_star» overall addressed listens) limit (now (arguments .entry)) (now (request .entry)) (now (events .entry)) (now (replies .entry)) (now (answer .entry)) r (now (request .exit)) (now (answer .exit)) ⌝ }
 {
     let h = fields(
         call,
@@ -149,6 +162,8 @@ pub extern "C" fn bintrochis_call(
         p2,
         p2_star,
         overall,
+        addressed,
+        listens,
     );
     let Fields::Ask(ask) = ask_of(h) else {
         return 1;
@@ -184,15 +199,29 @@ pub extern "C" fn bintrochis_call_alfid(
     p2_star: u32,
     overall: u32,
     limit: u16,
+    addressed: bool,
+    listens: u16,
     data: &[u8],
     request: &mut [u8],
     events: &[u8],
     replies: &[u8],
     answer: &mut [u64; 15],
 ) -> u8
-    ensures { λ r. ⌜ InNumbers (fields call flags value 0 0 0 p2 «p2_star» overall) limit address size «address_width» «size_width» wide (now («data» .entry)) (lentOf (now (request .entry)) (now (events .entry)) (now (replies .entry))) (now (answer .entry)) r (now (request .exit)) (now (answer .exit)) ⌝ }
+    ensures { λ r. ⌜ InNumbers (fields call flags value 0 0 0 p2 «p2_star» overall addressed listens) limit address size «address_width» «size_width» wide (now («data» .entry)) (now (request .entry)) (now (events .entry)) (now (replies .entry)) (now (answer .entry)) r (now (request .exit)) (now (answer .exit)) ⌝ }
 {
-    let h = fields(call, flags, value, 0, 0, 0, p2, p2_star, overall);
+    let h = fields(
+        call,
+        flags,
+        value,
+        0,
+        0,
+        0,
+        p2,
+        p2_star,
+        overall,
+        addressed,
+        listens,
+    );
     if !has_alfid(call) {
         return 1;
     }

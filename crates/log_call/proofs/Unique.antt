@@ -6,6 +6,7 @@ use mathlib.Core.Option.{Option, none, some}
 use mathlib.Core.Path.{_≡_, refl, _∙_, sym, ap}
 use Rattle.rules.specs.Calls as rules
 use Rattle.rules.specs.Calls.{given}
+use Rattle.rules.specs.Events as events
 use Rattle.rules.specs.Logs as logs
 use Rattle.rules.specs.Settings.{Setting}
 use Rattle.exchange.specs.declared.types.RequestTimeout.{RequestTimeout}
@@ -14,7 +15,9 @@ use Rattle.exchange.specs.declared.types.SubFunction.{SubFunction}
 use Rattle.exchange.specs.declared.types.SubFunction.the-variants as sub-function
 use Rattle.exchange.specs.declared.types.NoticeLimit.{NoticeLimit}
 use Rattle.exchange.specs.declared.types.NoticeLimit.the-variants.{Unlimited, AtMost}
-use Rattle.exchange.specs.Meaning.{subOf, overallOf, limitOf}
+use Rattle.exchange.specs.Meaning.{subOf, overallOf, limitOf, formOf}
+use Rattle.exchange.specs.declared.types.Form.{Form}
+use Rattle.exchange.specs.declared.types.Form.the-variants.{Plain, Addressed}
 use Rattle.requests.specs.declared.Call.{Call}
 use Rattle.requests.specs.declared.Call.the-variants as call
 use Rattle.requests.specs.declared.Data.{Data}
@@ -47,6 +50,10 @@ overallFrom (some t) = At t
 abbrev limitFrom : Option ℕ → NoticeLimit
 limitFrom none = Unlimited
 limitFrom (some k) = AtMost k
+
+abbrev formFrom : events.Form → Form
+formFrom events.plain = Plain
+formFrom events.addressed = Addressed
 
 abbrev callBack : rules.Call → Call
 callBack (rules.request sid sub d) = call.Request sid (subFrom sub) (dataFrom d)
@@ -82,6 +89,10 @@ limit-back : (k : NoticeLimit) → limitFrom (limitOf k) ≡ k
 limit-back Unlimited = refl
 limit-back (AtMost k) = refl
 
+form-back : (f : Form) → formFrom (formOf f) ≡ f
+form-back Plain = refl
+form-back Addressed = refl
+
 call-back : (k : Call) → callBack (callFrom k (given []) (given []) []) ≡ k
 call-back (call.Request sid sub p) = λ i. call.Request sid (sub-back sub i) (data-back p i)
 call-back (call.DiagnosticSessionControl sub) = refl
@@ -110,7 +121,10 @@ asks-unique {h} {r} {r′} k k′ =
     let servers = ap (λ (w : Setting). w .serverTiming) made in
     let overalls = sym (overall-back (r .overall)) ∙ ap (λ (w : Setting). overallFrom (w .overall)) made ∙ overall-back (r′ .overall) in
     let limits = sym (limit-back (r .limit)) ∙ ap (λ (w : Setting). limitFrom (w .limit)) made ∙ limit-back (r′ .limit) in
-    λ i. record { call = calls i; quiet = quiets i; strict = stricts i; server = servers i; overall = overalls i; limit = limits i }
+    let forms = sym (form-back (r .channel .form)) ∙ ap formFrom (k .form ∙ sym (k′ .form)) ∙ form-back (r′ .channel .form) in
+    let listens = k .listens ∙ sym (k′ .listens) in
+    let channels : r .channel ≡ r′ .channel = λ i. record { form = forms i; listens = listens i } in
+    λ i. record { call = calls i; quiet = quiets i; strict = stricts i; server = servers i; overall = overalls i; limit = limits i; channel = channels i }
 
 -- `ask_of`
 pub unique : (h : logs.Header) (r r′ : Fields) → AskedBy h r → AskedBy h r′ → r ≡ r′

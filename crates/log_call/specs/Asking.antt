@@ -7,9 +7,10 @@ use lib.Dec.{eqb}
 use lib.ListN.{getD}
 use Rattle.rules.specs.Calls.{Call, Field, testerPresent}
 use Rattle.rules.specs.Logs as rules
-use Rattle.rules.specs.Logs.{Header, headerOf, flag, usesOf, fieldsOk, layoutOk, some?, choices}
+use Rattle.rules.specs.Logs.{Header, formIn, headerOf, flag, usesOf, fieldsOk, layoutOk, some?, choices}
 use Rattle.requests.specs.Meaning.{callFrom}
 use Rattle.calls.specs.Meaning.{settingOf}
+use Rattle.exchange.specs.Meaning.{formOf}
 use Rattle.exchange.specs.declared.types.Timing.{Timing}
 use Rattle.calls.specs.declared.Ask.{Ask}
 use Rattle.logs.specs.Layout.{said}
@@ -26,10 +27,12 @@ chosen h a s d =
 abbrev pub sessionOf : Header → Timing
 sessionOf h = record { p2 = h .p2; star = h .star }
 
--- What sound fields ask: how the call is made, and the call with any address, size and data.
+-- What sound fields ask: how the call is made, over which channel, and the call with any address, size and data.
 pub record Asks (h : Header) (r : Ask) : Type 0 where
   pub strict : r .strict ≡ eqb (flag 1 h) 1
   pub setting : settingOf r (sessionOf h) ≡ rules.settingOf h
+  pub form : formOf (r .channel .form) ≡ formIn h
+  pub listens : r .channel .listens ≡ h .listens
   pub call : (a s : Field) (d : List ℕ) → callFrom (r .call) a s d ≡ chosen h a s d
 
 -- The fields suit their call, and this is asked; or they do not.

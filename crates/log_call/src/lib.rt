@@ -1,9 +1,11 @@
 // The call that a log asks: what the fields of its header say, and how it is made.
 use calls::Ask;
+use exchange::types::Channel;
 use exchange::types::NoticeLimit;
 use exchange::types::RequestTimeout;
 use exchange::types::SubFunction;
 use logs::header::Header;
+use logs::header::form_in;
 use logs::layout::laid_out;
 use logs::layout::suits;
 use logs::reader::read_header;
@@ -100,6 +102,9 @@ fn ask_for(h: Header) -> Ask
     let flags = h.flags;
     let call = call_of(h);
     let overall = overall_of(h);
+    let form = form_in(h);
+    let listens = h.listens;
+    let channel = Channel { form, listens };
     Ask {
         call,
         quiet: flag(flags, 4),
@@ -107,6 +112,7 @@ fn ask_for(h: Header) -> Ask
         server: flag(flags, 2),
         overall,
         limit: NoticeLimit::Unlimited,
+        channel,
     }
 }
 

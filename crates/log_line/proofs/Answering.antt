@@ -33,14 +33,17 @@ use Rattle.log_line.specs.declared.LogAnswer.the-variants as told
 -- The call that the code makes is the log's.
 pub answered : (l : List ℕ) (h : Header) {ask : Ask} {a s d es rs : List ℕ} {r : Answered} {buffer : List ℕ} → h ≡ headerOf l
     → Asks h ask → given a ≡ addressOf h l → given s ≡ sizeOf h l → d ≡ layout.dataBytes h l → es ≡ eventBytes h l → rs ≡ replyBytes h l
-    → Called (ask .strict) (settingOf ask (sessionOf h)) (callOf (ask .call) a s d) (lentOf (replicate 4095 0) es rs) r buffer
+    → Called (ask .strict) (settingOf ask (sessionOf h)) (callOf (ask .call) a s d) (lentOf (ask .channel) (replicate 4095 0) es rs) r buffer
     → Answers (replyBytes (headerOf l) l) (r .answer) (answerOf l)
 unfolding answerOf
-answered l h {ask = ask} {a = a} {s = s} {d = d} {rs = rs} {r = r} is k address size bytes events replies c =
+answered l h {ask = ask} {a = a} {s = s} {d = d} {es = es} {rs = rs} {r = r} is k address size bytes events replies c =
     let asked : callOf (ask .call) a s d ≡ rules.callOf h l = k .call (given a) (given s) d ∙ (λ i. chosen h (address i) (size i) (bytes i)) in
     let here : rs ≡ replyBytes (headerOf l) l = replies ∙ ap (λ (x : Header). replyBytes x l) is in
+    let lent : lentOf (ask .channel) (replicate 4095 0) es rs ≡ rules.lentOf h l =
+    λ i. record { buffer = replicate 4095 0; form = k .form i; events = events i; replies = replies i; listens = k .listens i }
+    in
     let means : exchange.answerOf rs (r .answer) ≡ call (eqb (flag 1 h) 1) (rules.settingOf h) (rules.callOf h l) (rules.lentOf h l) .answer =
-    ap (λ (x : Result). x .answer) (c .means ∙ (λ i. call (k .strict i) (k .setting i) (asked i) (lentOf (replicate 4095 0) (events i) (replies i))))
+    ap (λ (x : Result). x .answer) (c .means ∙ (λ i. call (k .strict i) (k .setting i) (asked i) (lent i)))
     in
     let by-header = ap (λ (x : Header). call (eqb (flag 1 x) 1) (rules.settingOf x) (rules.callOf x l) (rules.lentOf x l) .answer) is in
     subst (λ (bs : List ℕ). Answers bs (r .answer) (call (eqb (flag 1 (headerOf l)) 1) (rules.settingOf (headerOf l)) (rules.callOf (headerOf l) l) (rules.lentOf (headerOf l) l) .answer)) here

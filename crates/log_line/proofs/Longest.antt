@@ -15,17 +15,17 @@ use Rattle.rules.specs.Bytes.{u32At, every, isByte}
 use Rattle.rules.specs.Calls.{Call, request, session, reset, security, testerPresent, readMemory, writeMemory, readIdentifier, writeIdentifier, faultCount, routine, download, upload, transfer, transferExit, faultList, head, requestOf, suppresses}
 use Rattle.rules.specs.Client.{Result, asked, eventsIn, refuse, answered, call}
 use Rattle.rules.specs.Conversations.{Every}
-use Rattle.rules.specs.Events.{Entry, entriesFrom, entries, Event, reply, idle, ended, failed, timeOf, named, eventOf, upTo, sound, rising, withinLimits}
+use Rattle.rules.specs.Events.{Form, eventSize, Entry, entriesFrom, entries, Event, reply, idle, ended, failed, timeOf, named, foreign, eventOf, upTo, sound, withinLimits}
 use Rattle.rules.specs.Counts.{After}
 use Rattle.rules.specs.Exchange.{Asked, Step, pending, settles, look, Settled, State, start, silence, waits, allows, notes, hears, turn, settle, counted, under, exchange}
 use Rattle.rules.specs.Lines.{ascii, word, detail, line}
 use Rattle.rules.specs.Logs as rules
-use Rattle.rules.specs.Logs.{headerOf, flag, layoutOk, lineOf, answerOf}
+use Rattle.rules.specs.Logs.{moved, formIn, headerOf, flag, layoutOk, lineOf, answerOf}
 use Rattle.rules.specs.Refusals.{arguments, refusals}
 use Rattle.rules.specs.Settings.{Setting, Lent}
 use Rattle.rules.proofs.Judging.{both, judge-ind, pass-append}
 use Rattle.rules.proofs.Turns.{Through, settle-ind}
-use Rattle.exchange.proofs.Entries.{all-sound}
+use Rattle.exchange.proofs.Entries.{all-sound, few-entries}
 use Rattle.text.specs.Written.{Wrote, shown}
 use Rattle.text.specs.declared.Written.{Written}
 use Rattle.text.specs.declared.Written.the-variants.{Line}
@@ -47,40 +47,35 @@ Short (idle t) = t ≤ most
 Short (ended t) = t ≤ most
 Short (failed t n) = t ≤ most
 
-module _ (replies : List ℕ) where
-  short : (e : Entry) → sound replies e ≡ true → Short (eventOf replies e)
-  short e h = go (eqb (e .kind) 0) (eqb (e .kind) 1) (eqb (e .kind) 2) (both (leb (e .time) most) _ h .1)
+module _ (listens : ℕ) (replies : List ℕ) where
+  short : (e : Entry) → sound replies e ≡ true → Short (eventOf listens replies e)
+  short e h = go (foreign listens e) (eqb (e .kind) 0) (eqb (e .kind) 1) (eqb (e .kind) 2) (both (leb (e .time) most) _ h .1)
     where
       early : e .time ≤ most
       early = leb-true (e .time) most (both (leb (e .time) most) _ h .0)
 
-      go : (a b c : Bool)
-          → cond a (leb (e .size) 4095 && leb (e .offset + e .size) (length replies) && every isByte (named replies e .bytes)) (leb (e .kind) 3 && leb (e .size) 65535) ≡ true
-          → Short (cond a (reply (e .time) (named replies e)) (cond b (idle (e .time)) (cond c (ended (e .time)) (failed (e .time) (e .size)))))
-      go true b c k =
+      go : (f a b c : Bool)
+          → cond a (leb (e .size) 4095 && leb (e .offset + e .size) (length replies) && every isByte (named replies e .bytes)) (leb (e .kind) 3 && leb (e .size) 65535 && eqb (e .source) 0) ≡ true
+          → Short (cond f (idle (e .time)) (cond a (reply (e .time) (named replies e)) (cond b (idle (e .time)) (cond c (ended (e .time)) (failed (e .time) (e .size))))))
+      go true a b c k = early
+      go false true b c k =
           let size = both (leb (e .size) 4095) (leb (e .offset + e .size) (length replies)) (both (leb (e .size) 4095 && leb (e .offset + e .size) (length replies)) _ k .0) in
           (early, simp (length-take, length-drop) (omega (arith, leb-true (e .size) 4095 (size .0))))
-      go false true c k = early
-      go false false true k = early
-      go false false false k = early
+      go false false true c k = early
+      go false false false true k = early
+      go false false false false k = early
 
-  all-short : (es : List Entry) → every (sound replies) es ≡ true → Every Short (map (eventOf replies) es)
+  all-short : (es : List Entry) → every (sound replies) es ≡ true → Every Short (map (eventOf listens replies) es)
   all-short [] h = tt
   all-short (e ∷ es) h = let k = both (sound replies e) (every (sound replies) es) h in (short e (k .0), all-short es (k .1))
 
-count : (bs : List ℕ) (n i : ℕ) → length (entriesFrom bs n i) ≡ n
+count : (form : Form) (bs : List ℕ) (n i : ℕ) → length (entriesFrom form bs n i) ≡ n
 unfolding entriesFrom
-count bs zero i = refl
-count bs (suc n) i = omega (arith, count bs n (suc i))
+count form bs zero i = refl
+count form bs (suc n) i = omega (arith, count form bs n (suc i))
 
-few : (events replies : List ℕ) → withinLimits events replies ≡ true → length (entries events) ≤ 512
-unfolding withinLimits
-few events replies h =
-    let es = entries events in
-    let rises = both (eqb (length events % 10) 0 && leb (length events / 10) 512 && rising 0 es) _ h in
-    let counts = both (eqb (length events % 10) 0 && leb (length events / 10) 512) _ (rises .0) in
-    let small = both (eqb (length events % 10) 0) _ (counts .0) in
-    omega (arith, count events (length events / 10) 0, leb-true (length events / 10) 512 (small .1))
+few : (form : Form) (events replies : List ℕ) → withinLimits form events replies ≡ true → length (entries form events) ≤ 512
+few form events replies h = omega (arith, count form events (length events / eventSize form) 0, few-entries form events replies h)
 
 -- What is left to read adds at most so many events and notices.
 record Bounded (events notices : ℕ) (s : Settled) : Type 0 where
@@ -224,18 +219,18 @@ line-short x s d =
     (wide (x .outcome) (x .reply .bytes) d (s .reply)) (omega (arith, s .time)) (omega (arith, s .events)) (omega (arith, s .notices)))
 
 module _ (strict : Bool) (w : Setting) (c : Call) (l : Lent) (p2 : w .timing .p2 ≤ most) (star : w .timing .star ≤ most) where
-  heard : withinLimits (l .events) (l .replies) ≡ true → Small (exchange strict (asked w c) (w .overall) (eventsIn l))
+  heard : withinLimits (l .form) (l .events) (l .replies) ≡ true → Small (exchange strict (asked w c) (w .overall) (eventsIn l))
   unfolding exchange
   heard h =
-      let n : length (eventsIn l) ≤ 512 = simp length-map (few (l .events) (l .replies) h) in
-      let shorts = all-short (l .replies) (entries (l .events)) (all-sound (l .events) (l .replies) h) in
+      let n : length (eventsIn l) ≤ 512 = simp length-map (few (l .form) (l .events) (l .replies) h) in
+      let shorts = all-short (l .listens) (l .replies) (entries (l .form) (l .events)) (all-sound (l .form) (l .events) (l .replies) h) in
       let b = bounded strict (asked w c) p2 star (eventsIn l) (start (asked w c)) shorts (omega arith) in
       under-small (w .overall) _ (grown (omega arith) (omega arith) b)
 
   call-short : length (line (call strict w c l .answer)) ≤ 8222
   unfolding call
   call-short =
-      judge-ind (λ (x : Result). length (line (x .answer)) ≤ 8222) (refuse w l) (refusals c sent (l .buffer) (l .events) (l .replies)) (answered w c l sent (after strict c x))
+      judge-ind (λ (x : Result). length (line (x .answer)) ≤ 8222) (refuse w l) (refusals c sent (l .buffer) (l .form) (l .events) (l .replies)) (answered w c l sent (after strict c x))
       (λ n. line-short (refusal n) (record { time = omega arith; events = omega arith; notices = omega arith; reply = omega arith }) (omega arith))
       (λ k. let s = heard (pass-append (arguments c) _ k .1 .1 .1 .0) in
       line-short (after strict c x) (record { time = s .time; events = s .events; notices = s .notices; reply = s .reply }) (checked-short strict c (x .outcome) (x .reply) (s .reply)))
@@ -258,7 +253,7 @@ module _ (l : List ℕ) (bytes : (i : ℕ) → getD l i 0 < 256) where
   line-fits = go (layoutOk l) refl
     where
       go : (b : Bool) → layoutOk l ≡ b → length (lineOf l) ≤ 8222
-      go true e = rw (line-sound l e) (answer-short (four-bytes 24) (four-bytes 28))
+      go true e = let m = moved (formIn (headerOf l)) in rw (line-sound l e) (answer-short (four-bytes (24 + m)) (four-bytes (28 + m)))
       go false e = rw (line-bad l e) (omega arith)
 
   -- A buffer of that length always has room, and the line stands at its front.

@@ -4,13 +4,15 @@ use native.Mathlib.Numerals.{add-one}
 use native.Mathlib.Omega.{arith}
 use mathlib.Core.Bool.{Bool, true, false, _&&_, _||_}
 use mathlib.Core.List.{List, [], _∷_}
-use mathlib.Core.Path.{_≡_, refl}
+use mathlib.Core.Logic.{_⊎_, inl, inr, _≢_}
+use mathlib.Core.Path.{_≡_, refl, _∙_}
+use borrow.Author.Tests.{eq-eqb, ne-eqb}
 use lib.Dec.{leb, eqb}
 use lib.ListN.{length, getD, drop, drop-of-length-le}
 use lib.Seq.{drop-cons}
 use Rattle.rules.specs.Bytes.{every}
-use Rattle.rules.specs.Events.{entryAt, entriesFrom, entries}
-use Rattle.rules.specs.Logs.{Header, headerSize, all, areasOk, eventOk, eventBytes, laidOut, dataOf, flag, some?}
+use Rattle.rules.specs.Events.{Form, entryAt, entriesFrom, entries}
+use Rattle.rules.specs.Logs.{Header, headerSize, formIn, all, areasOk, eventOk, eventBytes, laidOut, dataOf, flag, some?}
 use Rattle.logs.specs.declared.header.Header as Code
 use Rattle.logs.specs.Layout.{said, dataBytes}
 
@@ -20,16 +22,16 @@ all-turn l i b h e = rw (drop-cons l i false h, add-one, e)
 pub all-end : (l : List Bool) (i : ℕ) → length l ≤ i → all (drop i l) ≡ true
 all-end l i h = rw (drop-of-length-le l h)
 
-pub event-turn : (bs : List ℕ) (i n : ℕ) (b : Bool) → i < n → eventOk (entryAt bs i) ≡ b
-    → every eventOk (entriesFrom bs (n - i) i) ≡ (b && every eventOk (entriesFrom bs (n - (i + 1)) (i + 1)))
+pub event-turn : (form : Form) (bs : List ℕ) (i n : ℕ) (b : Bool) → i < n → eventOk (entryAt form bs i) ≡ b
+    → every eventOk (entriesFrom form bs (n - i) i) ≡ (b && every eventOk (entriesFrom form bs (n - (i + 1)) (i + 1)))
 unfolding entriesFrom
-event-turn bs i n b h e =
+event-turn form bs i n b h e =
     let more : n - i ≡ suc (n - (i + 1)) = omega arith in
     rw (more, e, add-one)
 
-pub events-end : (bs : List ℕ) (i n : ℕ) → n ≤ i → every eventOk (entriesFrom bs (n - i) i) ≡ true
+pub events-end : (form : Form) (bs : List ℕ) (i n : ℕ) → n ≤ i → every eventOk (entriesFrom form bs (n - i) i) ≡ true
 unfolding entriesFrom
-events-end bs i n h =
+events-end form bs i n h =
     let done : n - i ≡ 0 = omega arith in
     rw done
 
@@ -39,10 +41,15 @@ one-or-two (suc zero) h l = refl
 one-or-two (suc (suc zero)) h l = refl
 one-or-two (suc (suc (suc k))) h l = absurd (omega arith)
 
--- The whole decision, from what the events and the areas told.
-pub laid : (l bs : List ℕ) (h : Header) {q r : Bool} → q ≡ areasOk h (length l) → bs ≡ eventBytes h l → r ≡ every eventOk (entries bs)
-    → all (leb headerSize (length l) ∷ eqb (h .version) 1 ∷ leb (h .call) 15 ∷ q ∷ r ∷ []) ≡ laidOut h l
-laid l bs h eq eb er = rw (eq, er, eb)
+-- Whether the version is one of the two, from the one test or the other.
+pub either : {A B : Type 0} (v : ℕ) {t : Bool} → A ⊎ B → (A → (v ≡ 1) × (t ≡ eqb v 1)) → (B → (v ≢ 1) × (t ≡ eqb v 2)) → t ≡ (eqb v 1 || eqb v 2)
+either v (inl a) one other = one a .1 ∙ rw (eq-eqb v 1 (one a .0))
+either v (inr b) one other = other b .1 ∙ rw (ne-eqb v 1 (other b .0))
+
+-- The whole decision, from what the parts of the header, the events and the areas told.
+pub laid : (l bs : List ℕ) (h : Header) {form : Form} {n : ℕ} {t q r : Bool} → form ≡ formIn h → n ≡ headerSize (formIn h) → t ≡ (eqb (h .version) 1 || eqb (h .version) 2)
+    → q ≡ areasOk h (length l) → bs ≡ eventBytes h l → r ≡ every eventOk (entries form bs) → all (leb n (length l) ∷ t ∷ leb (h .call) 15 ∷ q ∷ r ∷ []) ≡ laidOut h l
+laid l bs h ef en et eq eb er = rw (en, et, eq, er, eb, ef)
 
 pub data-bytes : (h : Header) (l : List ℕ) → dataOf h l ≡ some? (eqb (flag 32 h) 1) (dataBytes h l)
 data-bytes h l = refl
@@ -57,7 +64,7 @@ said-once a b e = λ i. record {
   sub = e i .sub;
   «address_length» = e i .addressLength;
   «size_length» = e i .sizeLength;
-  unused = e i .unused;
+  listens = e i .listens;
   arguments = e i .arguments;
   «arguments_at» = e i .argumentsAt;
   events = e i .events;

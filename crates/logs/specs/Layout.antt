@@ -15,7 +15,7 @@ said h = record {
   sub = h .sub;
   addressLength = h .«address_length»;
   sizeLength = h .«size_length»;
-  unused = h .unused;
+  listens = h .listens;
   arguments = h .arguments;
   argumentsAt = h .«arguments_at»;
   events = h .events;
@@ -38,4 +38,4 @@ meant u = Logs.uses (u .0) (u .1) (u .2) (u .3) (u .4) (u .5)
 -- The argument bytes behind address and size, whatever flag 32 says.
 abbrev pub dataBytes : Logs.Header → List ℕ → List ℕ
 dataBytes h l =
-    Logs.area l (Logs.headerSize + h .addressLength + h .sizeLength) (h .arguments - (h .addressLength + h .sizeLength))
+    Logs.area l (Logs.headerSize (Logs.formIn h) + h .addressLength + h .sizeLength) (h .arguments - (h .addressLength + h .sizeLength))

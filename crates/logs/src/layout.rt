@@ -1,17 +1,20 @@
 // The layout of a log: a sound one, or "any other layout".
-use crate::header::HEADER_SIZE;
 use crate::header::Header;
+use crate::header::form_in;
+use crate::header::header_size;
 use crate::reader::read_area;
-use exchange::events::EVENT_SIZE;
 use exchange::events::event_at;
+use exchange::events::event_count;
+use exchange::events::event_size;
 use exchange::types::Event;
+use exchange::types::Form;
 ghost use mathlib.Core.Path.{_≡_};
 ghost use Prim.Native.Nat.{_-_};
 ghost use Rattle.rules.specs.Bytes.{every};
 ghost use Rattle.rules.specs.Events.{entries};
-ghost use Rattle.rules.specs.Logs.{usesOf, all, fieldsOk, areasOk, eventOk, eventBytes, replyBytes, laidOut, addressOf, sizeOf};
+ghost use Rattle.rules.specs.Logs.{usesOf, all, mostListens, fieldsOk, areasOk, eventOk, eventBytes, replyBytes, laidOut, addressOf, sizeOf};
 ghost use Rattle.rules.specs.Calls.{given};
-ghost use Rattle.exchange.specs.Meaning.{entryOf};
+ghost use Rattle.exchange.specs.Meaning.{formOf, entryOf};
 ghost use Rattle.logs.specs.Layout.{said, meant, dataBytes};
 
 // What a call uses, a row of `usesByCall` of `rules`: the largest value, sub and lengths, whether flag 16 is its own, and whether data may and must be present.
@@ -59,6 +62,16 @@ fn all(tests: &[bool]) -> bool
     true
 }
 
+// The largest listening address: none in version 1.
+fn most_listens(form: Form) -> u16
+    ensures { λ r. ⌜ r ≡ mostListens (formOf form) ⌝ }
+{
+    match form {
+        Form::Plain => 0,
+        Form::Addressed => 65535,
+    }
+}
+
 // "Unused fields and bits are zero; flags 1, 2, 4, 8 suit every call"; "Without flag 32 no data bytes; calls 6 and 8 need it."
 fn fields_ok(h: Header, u: Uses) -> bool
     ensures { λ r. ⌜ r ≡ fieldsOk (said h) (meant u) ⌝ }
@@ -69,6 +82,7 @@ fn fields_ok(h: Header, u: Uses) -> bool
     let size = h.size_length;
     let both = address as u32 + size as u32;
     let arguments = h.arguments as u32;
+    let most = most_listens(form_in(h));
     let tests = [
         flags / 32 <= may,
         must <= flags / 32,
@@ -77,7 +91,7 @@ fn fields_ok(h: Header, u: Uses) -> bool
         h.sub as u16 <= sub as u16 + (flags / 16 % 2) as u16 * 255,
         address <= lengths,
         size <= lengths,
-        h.unused == 0,
+        h.listens <= most,
         h.overall <= (flags / 8 % 2) as u32 * 4294967295,
         both <= arguments,
         arguments <= both + (flags / 32 % 2) as u32 * 65535,
@@ -104,10 +118,12 @@ fn areas_ok(h: Header, n: usize) -> bool
     let replies = h.replies;
     let replies_at = h.replies_at;
     let total = h.total;
+    let header = header_size(h);
+    let event = event_size(form_in(h));
     let tests = [
-        arguments_at as usize == HEADER_SIZE,
-        events_at as usize == HEADER_SIZE + arguments as usize,
-        replies_at as usize == events_at as usize + events as usize * EVENT_SIZE,
+        arguments_at as usize == header,
+        events_at as usize == header + arguments as usize,
+        replies_at as usize == events_at as usize + events as usize * event,
         total as usize == replies_at as usize + replies as usize,
         total as usize == n,
     ];
@@ -126,13 +142,13 @@ fn event_ok(event: Event) -> bool
     }
 }
 
-fn events_ok(events: &[u8]) -> bool
-    ensures { λ r. ⌜ r ≡ every eventOk (entries (now (events .entry))) ⌝ }
+fn events_ok(form: Form, events: &[u8]) -> bool
+    ensures { λ r. ⌜ r ≡ every eventOk (entries (formOf form) (now (events .entry))) ⌝ }
 {
-    let n = events.len() / EVENT_SIZE;
+    let n = event_count(form, events);
     let mut i = 0;
     while i < n {
-        if !event_ok(event_at(events, i)) {
+        if !event_ok(event_at(form, events, i)) {
             return false;
         }
         i += 1;
@@ -144,7 +160,8 @@ fn events_ok(events: &[u8]) -> bool
 pub fn events_of<'a>(log: &'a [u8], h: Header) -> &'a [u8]
     ensures { λ r. ⌜ now r ≡ eventBytes (said h) (now (log .entry)) ⌝ }
 {
-    read_area(log, h.events_at as usize, h.events as usize * EVENT_SIZE)
+    let size = event_size(form_in(h));
+    read_area(log, h.events_at as usize, h.events as usize * size)
 }
 
 pub fn replies_of<'a>(log: &'a [u8], h: Header) -> &'a [u8]
@@ -157,15 +174,17 @@ pub fn replies_of<'a>(log: &'a [u8], h: Header) -> &'a [u8]
 pub fn address_of<'a>(log: &'a [u8], h: Header) -> &'a [u8]
     ensures { λ r. ⌜ given (now r) ≡ addressOf (said h) (now (log .entry)) ⌝ }
 {
-    read_area(log, HEADER_SIZE, h.address_length as usize)
+    let header = header_size(h);
+    read_area(log, header, h.address_length as usize)
 }
 
 pub fn size_of<'a>(log: &'a [u8], h: Header) -> &'a [u8]
     ensures { λ r. ⌜ given (now r) ≡ sizeOf (said h) (now (log .entry)) ⌝ }
 {
+    let header = header_size(h);
     read_area(
         log,
-        HEADER_SIZE + h.address_length as usize,
+        header + h.address_length as usize,
         h.size_length as usize,
     )
 }
@@ -180,21 +199,24 @@ fn less(n: usize, k: usize) -> usize
 pub fn data_of<'a>(log: &'a [u8], h: Header) -> &'a [u8]
     ensures { λ r. ⌜ now r ≡ dataBytes (said h) (now (log .entry)) ⌝ }
 {
+    let header = header_size(h);
     let a = h.address_length as usize;
     let s = h.size_length as usize;
-    read_area(log, HEADER_SIZE + a + s, less(h.arguments as usize, a + s))
+    read_area(log, header + a + s, less(h.arguments as usize, a + s))
 }
 
 // Every test of the layout but that the fields suit the call.
 pub fn laid_out(log: &[u8], h: Header) -> bool
     ensures { λ r. ⌜ r ≡ laidOut (said h) (now (log .entry)) ⌝ }
 {
+    let form = form_in(h);
+    let header = header_size(h);
     let tests = [
-        HEADER_SIZE <= log.len(),
-        h.version == 1,
+        header <= log.len(),
+        h.version == 1 || h.version == 2,
         h.call <= 15,
         areas_ok(h, log.len()),
-        events_ok(events_of(log, h)),
+        events_ok(form, events_of(log, h)),
     ];
     all(&tests)
 }

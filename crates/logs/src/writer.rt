@@ -1,19 +1,25 @@
 // Events and headers written into a lent buffer, high byte first.
-use crate::header::HEADER_SIZE;
 use crate::header::Header;
-use exchange::events::EVENT_SIZE;
+use crate::header::form_in;
+use crate::header::moved_by;
+use exchange::events::event_size;
 use exchange::types::Event;
+use exchange::types::Form;
 use wire::copy_into;
-ghost use Rattle.rules.specs.Writing.{putEntry, putHeader};
+use wire::part;
+ghost use mathlib.Core.List.{_++_};
+ghost use mathlib.Core.Path.{_≡_};
+ghost use Rattle.rules.specs.Events.{addressed};
+ghost use Rattle.rules.specs.Writing.{putEntry, putHeaderIn, putHeader};
 ghost use Rattle.wire.specs.Buffers.{Copied};
-ghost use Rattle.exchange.specs.Meaning.{entryOf};
+ghost use Rattle.exchange.specs.Meaning.{formOf, entryOf};
 ghost use Rattle.logs.specs.Layout.{said};
 
-// Puts an event into `buffer` at index `at`. Where its bytes do not fit, nothing changes and the answer is false.
-pub fn put_event(buffer: &mut [u8], at: usize, event: Event) -> bool
-    ensures { λ r. ⌜ Copied (now (buffer .entry)) at (putEntry (entryOf event)) r (now (buffer .exit)) ⌝ }
+// An event's bytes with its source.
+fn event_bytes(event: Event) -> [u8; 12]
+    ensures { λ r. ⌜ r ≡ putEntry addressed (entryOf event) ⌝ }
 {
-    let bytes: [u8; EVENT_SIZE] = [
+    [
         (event.time / 65536 / 256) as u8,
         (event.time / 65536 % 256) as u8,
         (event.time % 65536 / 256) as u8,
@@ -24,13 +30,22 @@ pub fn put_event(buffer: &mut [u8], at: usize, event: Event) -> bool
         (event.offset % 256) as u8,
         (event.size / 256) as u8,
         (event.size % 256) as u8,
-    ];
-    copy_into(buffer, at, &bytes)
+        (event.source / 256) as u8,
+        (event.source % 256) as u8,
+    ]
 }
 
-// The same of a header.
-pub fn put_header(buffer: &mut [u8], at: usize, header: Header) -> bool
-    ensures { λ r. ⌜ Copied (now (buffer .entry)) at (putHeader (said header)) r (now (buffer .exit)) ⌝ }
+// Puts an event into `buffer` at index `at`. Where its bytes do not fit, nothing changes and the answer is false.
+pub fn put_event(buffer: &mut [u8], at: usize, form: Form, event: Event) -> bool
+    ensures { λ r. ⌜ Copied (now (buffer .entry)) at (putEntry (formOf form) (entryOf event)) r (now (buffer .exit)) ⌝ }
+{
+    let bytes = event_bytes(event);
+    copy_into(buffer, at, part(&bytes, 0, event_size(form)))
+}
+
+// A header's bytes with both of the listening address, whatever the version.
+fn header_bytes(header: Header) -> [u8; 37]
+    ensures { λ r. ⌜ r ≡ putHeaderIn addressed (said header) ⌝ }
 {
     // each read once, as in `areas_ok`
     let version = header.version;
@@ -45,7 +60,8 @@ pub fn put_header(buffer: &mut [u8], at: usize, header: Header) -> bool
     let p2 = header.p2;
     let star = header.star;
     let overall = header.overall;
-    let bytes: [u8; HEADER_SIZE] = [
+    let listens = header.listens;
+    [
         (version / 256) as u8,
         (version % 256) as u8,
         header.call,
@@ -55,7 +71,8 @@ pub fn put_header(buffer: &mut [u8], at: usize, header: Header) -> bool
         header.sub,
         header.address_length,
         header.size_length,
-        header.unused,
+        (listens / 256) as u8,
+        (listens % 256) as u8,
         (arguments / 256) as u8,
         (arguments % 256) as u8,
         (arguments_at / 256) as u8,
@@ -82,6 +99,29 @@ pub fn put_header(buffer: &mut [u8], at: usize, header: Header) -> bool
         (overall / 65536 % 256) as u8,
         (overall % 65536 / 256) as u8,
         (overall % 65536 % 256) as u8,
-    ];
-    copy_into(buffer, at, &bytes)
+    ]
+}
+
+// Puts two pieces as `put_event` does its one, the second behind the first.
+fn put_both(buffer: &mut [u8], at: usize, front: &[u8], behind: &[u8]) -> bool
+    ensures { λ r. ⌜ Copied (now (buffer .entry)) at (now (front .entry) ++ now (behind .entry)) r (now (buffer .exit)) ⌝ }
+{
+    if at > buffer.len() {
+        return false;
+    }
+    // the second first: where it does not fit, nothing has changed yet
+    if !copy_into(buffer, at + front.len(), behind) {
+        return false;
+    }
+    copy_into(buffer, at, front)
+}
+
+// Puts a header, as `put_event` does an event.
+pub fn put_header(buffer: &mut [u8], at: usize, header: Header) -> bool
+    ensures { λ r. ⌜ Copied (now (buffer .entry)) at (putHeader (said header)) r (now (buffer .exit)) ⌝ }
+{
+    let bytes = header_bytes(header);
+    // version 1 has the low byte of the listening address alone
+    let rest = part(&bytes, 10 - moved_by(form_in(header)), 28);
+    put_both(buffer, at, part(&bytes, 0, 9), rest)
 }

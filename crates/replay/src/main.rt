@@ -157,6 +157,8 @@ fn alfid_line(case: &[u8], line: &mut [u8]) -> Written {
         5000,
         0,
         NO_LIMIT,
+        false,
+        0,
         part(case, 37, case.len()),
         &mut request,
         b"",
@@ -242,7 +244,7 @@ fn answer_line(answer: &[u64; 15], replies: &[u8], line: &mut [u8]) -> Written {
 fn limit_line(case: &[u8], line: &mut [u8]) -> Written {
     let log = part(case, 2, case.len());
     let h = logs::reader::read_header(log);
-    let arguments = part(log, logs::header::HEADER_SIZE, h.arguments as usize);
+    let arguments = part(log, logs::header::header_size(h), h.arguments as usize);
     let events = logs::layout::events_of(log, h);
     let replies = logs::layout::replies_of(log, h);
     let mut request = [0u8; 4095];
@@ -258,6 +260,8 @@ fn limit_line(case: &[u8], line: &mut [u8]) -> Written {
         h.star,
         h.overall,
         wire::u16_at(case, 0),
+        h.version == 2,
+        h.listens,
         arguments,
         &mut request,
         events,
@@ -377,4 +381,7 @@ fn main() {
     let limits = os::open_read(b"limits.bin");
     let limit_lines = os::open_read(b"limits.expected");
     say(b"limits", replay(List::Limits, limits, limit_lines));
+    let addressed = os::open_read(b"addressed.bin");
+    let addressed_lines = os::open_read(b"addressed.expected");
+    say(b"addressed", replay(List::Logs, addressed, addressed_lines));
 }

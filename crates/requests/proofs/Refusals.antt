@@ -9,7 +9,7 @@ use lib.ListN.{length}
 use borrow.Author.Tests.{eq-eqb, ne-eqb}
 use Rattle.rules.specs.Calls.{Call, request, session, reset, security, testerPresent, readMemory, writeMemory, readIdentifier, writeIdentifier, faultCount, routine, download, upload, transfer, transferExit, faultList, Field, given, alfid, requestOf}
 use Rattle.rules.specs.InOrder.{Check, unless, judge}
-use Rattle.rules.specs.Events.{withinLimits}
+use Rattle.rules.specs.Events.{Form, withinLimits}
 use Rattle.rules.specs.Refusals.{width, lengths, methods, arguments, refusals}
 use Rattle.rules.proofs.Judging.{judge-append}
 use Rattle.requests.specs.Prepared.{sizes, refusalOf}
@@ -45,16 +45,16 @@ non-zero-arguments (transferExit d) = tt
 non-zero-arguments (faultList mask) = tt
 
 -- Document 01's judgement of a call, of which `refusal` answers n: `wrong` takes a refusal's number, x is the answer of a call that is not refused.
-module _ {B : Type 0} (wrong : ℕ → B) (quiet : Bool) (c : Call) (buffer events replies : List ℕ) (x : B) (n : ℕ) (told : n ≡ refusalOf quiet c (length buffer)) where
+module _ {B : Type 0} (wrong : ℕ → B) (quiet : Bool) (c : Call) (buffer : List ℕ) (form : Form) (events replies : List ℕ) (x : B) (n : ℕ) (told : n ≡ refusalOf quiet c (length buffer)) where
   abbrev judged : B
-  judged = judge wrong (refusals c (requestOf quiet c) buffer events replies) x
+  judged = judge wrong (refusals c (requestOf quiet c) buffer form events replies) x
 
-  pub by-refusal : judged ≡ cond (eqb n 0) (cond (withinLimits events replies) x (wrong 10)) (wrong n)
+  pub by-refusal : judged ≡ cond (eqb n 0) (cond (withinLimits form events replies) x (wrong 10)) (wrong n)
   unfolding refusalOf
   by-refusal =
       let size = sizes (length (requestOf quiet c)) (length buffer) in
       let early = arguments c ++ size in
-      let ten = unless {A = ℕ} (withinLimits events replies) 10 ∷ [] in
+      let ten = unless {A = ℕ} (withinLimits form events replies) 10 ∷ [] in
       ap (λ (cs : List (Check ℕ)). judge wrong cs x) (sym (append-assoc (arguments c) size ten)) ∙
       judge-append wrong early ten x ∙
       by-number wrong early (judge wrong ten x) (non-zero-append (arguments c) size (non-zero-arguments c) (refl, (refl, tt))) ∙
@@ -63,8 +63,8 @@ module _ {B : Type 0} (wrong : ℕ → B) (quiet : Bool) (c : Call) (buffer even
   pub refused : (n ≡ 0 → ⊥) → judged ≡ wrong n
   refused h = by-refusal ∙ rw (ne-eqb n 0 h)
 
-  pub outside : n ≡ 0 → withinLimits events replies ≡ false → judged ≡ wrong 10
+  pub outside : n ≡ 0 → withinLimits form events replies ≡ false → judged ≡ wrong 10
   outside z h = by-refusal ∙ rw (eq-eqb n 0 z, h)
 
-  pub accepted : n ≡ 0 → withinLimits events replies ≡ true → judged ≡ x
+  pub accepted : n ≡ 0 → withinLimits form events replies ≡ true → judged ≡ x
   accepted z h = by-refusal ∙ rw (eq-eqb n 0 z, h)

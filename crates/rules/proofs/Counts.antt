@@ -38,15 +38,15 @@ hush-free strict a hush p = go (ltb 0 (length (p .bytes))) (eqb (getD (p .bytes)
     go false negative = refl
 
 -- Times read, on top of those read before.
-abbrev onto : List ℕ → List ℕ → List ℕ
+abbrev pub onto : List ℕ → List ℕ → List ℕ
 onto [] l = l
 onto (t ∷ ts) l = onto ts (t ∷ l)
 
-onto-length : (ts l : List ℕ) → length (onto ts l) ≡ length ts + length l
+pub onto-length : (ts l : List ℕ) → length (onto ts l) ≡ length ts + length l
 onto-length [] l = omega arith
 onto-length (t ∷ ts) l = omega (arith, onto-length ts (t ∷ l))
 
-onto-upTo : (limit : ℕ) (ts l : List ℕ) → upTo limit (onto ts l) ≡ upTo limit ts + upTo limit l
+pub onto-upTo : (limit : ℕ) (ts l : List ℕ) → upTo limit (onto ts l) ≡ upTo limit ts + upTo limit l
 onto-upTo limit [] l = omega arith
 onto-upTo limit (t ∷ ts) l = omega (arith, onto-upTo limit ts (t ∷ l))
 

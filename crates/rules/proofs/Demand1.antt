@@ -93,7 +93,7 @@ demand1 strict w c l n =
     let message = requestOf (w .quiet) c in
     let last = among-last (getD own (numbered c) []) in
     let x = exchange strict (asked w c) (w .overall) (eventsIn l) in
-    judge-faults (Numbered c) (λ (y : Result). y .answer .outcome ≡ refused n → Untouched w c l n y) (refuse w l) (refusals c message (l .buffer) (l .events) (l .replies))
+    judge-faults (Numbered c) (λ (y : Result). y .answer .outcome ≡ refused n → Untouched w c l n y) (refuse w l) (refusals c message (l .buffer) (l .form) (l .events) (l .replies))
     (answered w c l message (after strict c x))
     (join (numbersFor c) (arguments c) _ (by-arguments c) (last 8 refl, (last 9 refl, (last 10 refl, tt))))
     (λ f k e. record {

@@ -246,27 +246,27 @@ module _ (w : Setting) (c : Call) (is-named : Named c) (es : List Event) (rises 
   complete x (inl f) = complete-closed x f
   complete x (inr h) = complete-silent x h
 
-  both-ways : (x : Answer) → ((told ≡ x) × Answers (x .outcome)) ↔ Conversation w c es x
+  pub both-ways : (x : Answer) → ((told ≡ x) × Answers (x .outcome)) ↔ Conversation w c es x
   both-ways x =
       (λ h. subst (λ (y : Answer). Conversation w c es y) (h .0) (sound (subst⁻¹ (λ (y : Answer). Answers (y .outcome)) (h .0) (h .1))), complete x)
 
 -- A call that is not refused passed every refusal's test, and its answer is the exchange's, checked.
 pub record Accepted (strict : Bool) (w : Setting) (c : Call) (l : Lent) : Type 0 where
-  pub pass : Pass (refusals c (requestOf (w .quiet) c) (l .buffer) (l .events) (l .replies))
+  pub pass : Pass (refusals c (requestOf (w .quiet) c) (l .buffer) (l .form) (l .events) (l .replies))
   pub is : call strict w c l ≡ answered w c l (requestOf (w .quiet) c) (after strict c (exchange strict (asked w c) (w .overall) (eventsIn l)))
 
 pub accepted : (strict : Bool) (w : Setting) (c : Call) (l : Lent) → ¬ Refused (call strict w c l .answer .outcome) → Accepted strict w c l
 unfolding call
 accepted strict w c l n =
     let h =
-    judge-inv (refuse w l) (refusals c (requestOf (w .quiet) c) (l .buffer) (l .events) (l .replies))
+    judge-inv (refuse w l) (refusals c (requestOf (w .quiet) c) (l .buffer) (l .form) (l .events) (l .replies))
     (λ f e. n (subst (λ (y : Result). Refused (y .answer .outcome)) e tt))
     refl
     in
     record { pass = h .0; is = sym (h .1) }
 
-pub sound-events : (strict : Bool) (w : Setting) (c : Call) (l : Lent) → Accepted strict w c l → Sound (l .events) (l .replies)
-sound-events strict w c l h = limits (l .events) (l .replies) (pass-append (arguments c) _ (h .pass) .1 .1 .1 .0)
+pub sound-events : (strict : Bool) (w : Setting) (c : Call) (l : Lent) → Accepted strict w c l → Sound (l .form) (l .listens) (l .events) (l .replies)
+sound-events strict w c l h = limits (l .form) (l .listens) (l .events) (l .replies) (pass-append (arguments c) _ (h .pass) .1 .1 .1 .0)
 
 pub demand3 : Demand3
 unfolding exchange

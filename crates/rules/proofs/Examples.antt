@@ -1,5 +1,6 @@
 -- The ten examples and the readings, by computing.
 use mathlib.Core.Path.{refl}
+use Rattle.rules.specs.Addresses.{log2, lines, writing, Addresses}
 use Rattle.rules.specs.After.{checked}
 use Rattle.rules.specs.Client.{call}
 use Rattle.rules.specs.Events.{withinLimits, entriesFrom}
@@ -16,3 +17,7 @@ examples-hold = (refl, refl)
 pub readings-hold : Readings
 unfolding meetings line decimalTo call withinLimits entriesFrom exchange settle look checked
 readings-hold = (refl, refl, refl)
+
+pub addresses-hold : Addresses
+unfolding log2 lines writing lineOf answerOf layoutOk line decimalTo call withinLimits entriesFrom exchange settle look checked
+addresses-hold = (refl, refl)

@@ -27,3 +27,7 @@ pub mod Inside
 pub mod Unrefused
 pub mod Demand1
 pub mod Writing
+pub mod Dropping
+pub mod Places
+pub mod Laying
+pub mod Foreign

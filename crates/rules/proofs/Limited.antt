@@ -72,7 +72,7 @@ finishes : (strict : Bool) (w : Setting) (c : Call) (l : Lent) (k : ℕ) → w .
 unfolding call exchange
 finishes strict w c l k limit =
     let by = w .timing .p2 + k * w .timing .star in
-    judge-ind (λ (r : Result). r .answer .time ≤ by) (refuse w l) (refusals c (requestOf (w .quiet) c) (l .buffer) (l .events) (l .replies)) _ (λ n. omega arith)
+    judge-ind (λ (r : Result). r .answer .time ≤ by) (refuse w l) (refusals c (requestOf (w .quiet) c) (l .buffer) (l .form) (l .events) (l .replies)) _ (λ n. omega arith)
     (λ p. under-by by (settle strict (asked w c) (eventsIn l) (start (asked w c))) (w .overall) (ends-by strict (asked w c) k limit (eventsIn l)))
 
 -- The replies read.

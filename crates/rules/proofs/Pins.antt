@@ -2,7 +2,7 @@
 use mathlib.Core.Path.{refl}
 use Rattle.rules.specs.After.{checked}
 use Rattle.rules.specs.Client.{call}
-use Rattle.rules.specs.Events.{withinLimits, entriesFrom}
+use Rattle.rules.specs.Events.{plain, addressed, withinLimits, entriesFrom}
 use Rattle.rules.specs.Exchange.{look, settle, exchange}
 use Rattle.rules.specs.Pins.{Hold, lenientExchange, lenientCalls, strictBounds, events, overall, requests, beside, limits, AtMost512, Pins}
 
@@ -40,7 +40,8 @@ limits-hold = refl
 
 at-most-512 : AtMost512
 unfolding withinLimits
-at-most-512 events replies = (λ h. rw h refl, λ h. rw h refl)
+at-most-512 plain events replies = (λ h. rw h refl, λ h. rw h refl)
+at-most-512 addressed events replies = (λ h. rw h refl, λ h. rw h refl)
 
 pub pins-hold : Pins
 pins-hold = (lenientExchange-hold, lenientCalls-hold, strictBounds-hold, events-hold, overall-hold, requests-hold, beside-hold, limits-hold, at-most-512)

@@ -19,7 +19,7 @@ use Rattle.rules.specs.Exchange.{exchange, settle}
 use Rattle.rules.specs.InOrder.{Check, unless, judge}
 use Rattle.rules.specs.Refusals.{between, width, arguments}
 use Rattle.rules.specs.Settings.{Setting, Lent}
-use Rattle.rules.specs.Wide.{Form, reads, writes, downloads, uploads, asks, wideRows, WideRows, Wide}
+use Rattle.rules.specs.Wide.{MemoryCall, reads, writes, downloads, uploads, asks, wideRows, WideRows, Wide}
 use Rattle.rules.proofs.Judging.{both}
 
 pub bytes-length : (w v : ℕ) → length (bytesOf w v) ≡ w
@@ -57,37 +57,37 @@ same-width v w h =
 
 -- A call goes by its fields' refusals and bytes.
 module _ (strict : Bool) (x : Setting) (l : Lent) (a a′ s s′ : Field) (p : width a ≡ width a′) (q : width s ≡ width s′) (b : sent a ≡ sent a′) (d : sent s ≡ sent s′) where
-  checked-by-bytes : (f : Form) (r : Part) → checked strict (asks f a s) r ≡ checked strict (asks f a′ s′) r
+  checked-by-bytes : (f : MemoryCall) (r : Part) → checked strict (asks f a s) r ≡ checked strict (asks f a′ s′) r
   unfolding checked
   checked-by-bytes reads r = rw d
   checked-by-bytes (writes w) r = rw (b, d)
   checked-by-bytes (downloads c e) r = refl
   checked-by-bytes (uploads c e) r = refl
 
-  arguments-by-bytes : (f : Form) → arguments (asks f a s) ≡ arguments (asks f a′ s′)
+  arguments-by-bytes : (f : MemoryCall) → arguments (asks f a s) ≡ arguments (asks f a′ s′)
   arguments-by-bytes reads = rw (p, q, b, d)
   arguments-by-bytes (writes w) = rw (p, q, b, d)
   arguments-by-bytes (downloads c e) = rw (p, q, b, d)
   arguments-by-bytes (uploads c e) = rw (p, q, b, d)
 
-  request-by-bytes : (f : Form) → requestOf (x .quiet) (asks f a s) ≡ requestOf (x .quiet) (asks f a′ s′)
+  request-by-bytes : (f : MemoryCall) → requestOf (x .quiet) (asks f a s) ≡ requestOf (x .quiet) (asks f a′ s′)
   request-by-bytes reads = rw (b, d)
   request-by-bytes (writes w) = rw (b, d)
   request-by-bytes (downloads c e) = rw (b, d)
   request-by-bytes (uploads c e) = rw (b, d)
 
-  unfoldable heard : Form → Answer
+  unfoldable heard : MemoryCall → Answer
   heard f = exchange strict (asked x (asks f a s)) (x .overall) (eventsIn l)
 
   -- A call by its refusals, its request and the outcome of its checks.
-  abbrev ends : Form → List (Check ℕ) → List ℕ → Outcome → Result
+  abbrev ends : MemoryCall → List (Check ℕ) → List ℕ → Outcome → Result
   ends f cs r o =
       let y = heard f in
       judge (refuse x l)
-      (cs ++ (unless (leb (length r) 4095) 8 ∷ unless (leb (length r) (length (l .buffer))) 9 ∷ unless (withinLimits (l .events) (l .replies)) 10 ∷ []))
+      (cs ++ (unless (leb (length r) 4095) 8 ∷ unless (leb (length r) (length (l .buffer))) 9 ∷ unless (withinLimits (l .form) (l .events) (l .replies)) 10 ∷ []))
       (answered x (asks f a s) l r (answer (ifPositive (y .outcome) (λ z. o) (y .outcome)) (y .time) (y .events) (y .notices) (y .reply)))
 
-  by-bytes : (f : Form) → call strict x (asks f a s) l ≡ call strict x (asks f a′ s′) l
+  by-bytes : (f : MemoryCall) → call strict x (asks f a s) l ≡ call strict x (asks f a′ s′) l
   unfolding call heard
   by-bytes f =
       let c = asks f a s in
@@ -95,13 +95,13 @@ module _ (strict : Bool) (x : Setting) (l : Lent) (a a′ s s′ : Field) (p : w
       ap₂ (λ (r : List ℕ) (o : Outcome). ends f (arguments (asks f a′ s′)) r o) (request-by-bytes f) (checked-by-bytes f (heard f .reply)) ∙
       go f
     where
-      go : (f : Form) → ends f (arguments (asks f a′ s′)) (requestOf (x .quiet) (asks f a′ s′)) (checked strict (asks f a′ s′) (heard f .reply)) ≡ call strict x (asks f a′ s′) l
+      go : (f : MemoryCall) → ends f (arguments (asks f a′ s′)) (requestOf (x .quiet) (asks f a′ s′)) (checked strict (asks f a′ s′) (heard f .reply)) ≡ call strict x (asks f a′ s′) l
       go reads = refl
       go (writes w) = refl
       go (downloads c e) = refl
       go (uploads c e) = refl
 
-as-off : (strict : Bool) (x : Setting) (f : Form) (v w u w′ : ℕ) (l : Lent) → between 1 8 w ≡ true → between 1 8 w′ ≡ true
+as-off : (strict : Bool) (x : Setting) (f : MemoryCall) (v w u w′ : ℕ) (l : Lent) → between 1 8 w ≡ true → between 1 8 w′ ≡ true
     → call strict x (asks f (alfid v w true) (alfid u w′ true)) l ≡ call strict x (asks f (alfid v w false) (alfid u w′ false)) l
 as-off strict x f v w u w′ l h h′ =
     by-bytes strict x l (alfid v w true) (alfid v w false) (alfid u w′ true) (alfid u w′ false) (same-width v w h) (same-width u w′ h′) refl refl f

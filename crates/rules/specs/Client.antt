@@ -7,7 +7,7 @@ use Rattle.rules.specs.After.{after, numberOf, timingOf}
 use Rattle.rules.specs.Answers.{Answer, refusal}
 use Rattle.rules.specs.Calls.{Call, sidOf, subOf, withBit7, requestOf}
 use Rattle.rules.specs.InOrder.{judge}
-use Rattle.rules.specs.Events.{Event, entries, eventOf}
+use Rattle.rules.specs.Events.{Entry, Event, entries, eventOf}
 use Rattle.rules.specs.Exchange.{Asked, exchange}
 use Rattle.rules.specs.Settings.{Timing, Setting, Lent}
 use Rattle.rules.specs.Refusals.{refusals}
@@ -28,8 +28,15 @@ asked w c = record {
   limit = w .limit;
 }
 
+abbrev pub entriesIn : Lent → List Entry
+entriesIn l = entries (l .form) (l .events)
+
+-- What entries of what is lent say to the call.
+abbrev pub heard : Lent → List Entry → List Event
+heard l es = map (eventOf (l .listens) (l .replies)) es
+
 abbrev pub eventsIn : Lent → List Event
-eventsIn l = map (eventOf (l .replies)) (entries (l .events))
+eventsIn l = heard l (entriesIn l)
 
 -- "A refused call [..] sends nothing"; "Refused: the number, time and counts 0, all buffers and timing untouched."
 abbrev pub refuse : Setting → Lent → ℕ → Result
@@ -48,5 +55,5 @@ answered w c l request x = record {
 unfoldable pub call : Bool → Setting → Call → Lent → Result
 call strict w c l =
     let request = requestOf (w .quiet) c in
-    judge (refuse w l) (refusals c request (l .buffer) (l .events) (l .replies))
+    judge (refuse w l) (refusals c request (l .buffer) (l .form) (l .events) (l .replies))
     (answered w c l request (after strict c (exchange strict (asked w c) (w .overall) (eventsIn l))))

@@ -9,6 +9,7 @@ use Rattle.rules.specs.Answers.{part, deviation, deviation8, overflow, O
 use Rattle.rules.specs.Bytes.{bytesOf, two}
 use Rattle.rules.specs.Calls.{Call, request, reset, testerPresent, readMemory, readIdentifier, download, given, requestOf}
 use Rattle.rules.specs.Client.{Result, call}
+use Rattle.rules.specs.Events.{plain}
 use Rattle.rules.specs.Lines.{ascii}
 use Rattle.rules.specs.Logs.{lineOf}
 use Rattle.rules.specs.Settings.{Setting, Lent}
@@ -53,7 +54,7 @@ abbrev pub blank : List ℕ
 blank = replicate 64 0xee
 
 abbrev pub lent : List Said → Lent
-lent ss = record { buffer = blank; events = eventBytes 0 ss; replies = joined ss }
+lent ss = record { buffer = blank; form = plain; events = eventBytes 0 ss; replies = joined ss; listens = 0 }
 
 -- P2 50 and P2* 5000, the overall timeout as given, server timing on.
 abbrev pub setting : Option ℕ → Bool → Setting

@@ -3,8 +3,8 @@ pub mod Bytes
 pub mod InOrder
 pub mod Answers
 pub mod Calls
-pub mod Settings
 pub mod Events
+pub mod Settings
 pub mod Exchange
 pub mod Positives
 pub mod After
@@ -35,3 +35,5 @@ pub mod Wide
 pub mod Faults
 pub mod FaultRows
 pub mod Writing
+pub mod Foreign
+pub mod Addresses

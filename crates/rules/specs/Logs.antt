@@ -9,15 +9,24 @@ use Rattle.rules.specs.Answers.{Answer}
 use Rattle.rules.specs.Bytes.{u16At, u32At, every}
 use Rattle.rules.specs.Calls.{Call, request, session, reset, security, testerPresent, readMemory, writeMemory, readIdentifier, writeIdentifier, faultCount, routine, download, upload, transfer, transferExit, faultList, Field, given, orNone}
 use Rattle.rules.specs.Client.{call}
-use Rattle.rules.specs.Events.{Entry, eventSize, entries}
+use Rattle.rules.specs.Events.{Form, plain, addressed, eventSize, Entry, entries}
 use Rattle.rules.specs.Lines.{line, badlog}
 use Rattle.rules.specs.Settings.{Setting, Lent}
 
--- "Header, 36 bytes", big-endian.
-abbrev pub headerSize : ℕ
-headerSize = 36
+-- Version 2 has its events addressed; every other number but 1 is no version.
+abbrev pub formOf : ℕ → Form
+formOf version = cond (eqb version 2) addressed plain
 
--- Of an area: how many (bytes or events), and where it begins.
+-- "the listening address in place of the zero at byte 9 widened to u16, which makes the header 37 bytes": so many bytes further stands all that comes after byte 9.
+abbrev pub moved : Form → ℕ
+moved plain = 0
+moved addressed = 1
+
+-- "Header, 36 bytes"; of version 2 37.
+abbrev pub headerSize : Form → ℕ
+headerSize form = 36 + moved form
+
+-- Big-endian. Of an area: how many (bytes or events), and where it begins.
 pub record Header : Type 0 where
   pub version : ℕ
   pub call : ℕ
@@ -26,7 +35,7 @@ pub record Header : Type 0 where
   pub sub : ℕ
   pub addressLength : ℕ
   pub sizeLength : ℕ
-  pub unused : ℕ
+  pub listens : ℕ
   pub arguments : ℕ
   pub argumentsAt : ℕ
   pub events : ℕ
@@ -38,8 +47,17 @@ pub record Header : Type 0 where
   pub star : ℕ
   pub overall : ℕ
 
-abbrev pub headerOf : List ℕ → Header
-headerOf l = record {
+abbrev pub formIn : Header → Form
+formIn h = formOf (h .version)
+
+-- The byte of version 1 that must be zero, or the listening address.
+abbrev pub listensAt9 : Form → List ℕ → ℕ
+listensAt9 plain l = getD l 9 0
+listensAt9 addressed l = u16At l 9
+
+-- The fields of a header in this form.
+abbrev pub headerIn : Form → List ℕ → Header
+headerIn form l = record {
   version = u16At l 0;
   call = getD l 2 0;
   flags = getD l 3 0;
@@ -47,18 +65,21 @@ headerOf l = record {
   sub = getD l 6 0;
   addressLength = getD l 7 0;
   sizeLength = getD l 8 0;
-  unused = getD l 9 0;
-  arguments = u16At l 10;
-  argumentsAt = u16At l 12;
-  events = u16At l 14;
-  eventsAt = u16At l 16;
-  replies = u16At l 18;
-  repliesAt = u16At l 20;
-  total = u16At l 22;
-  p2 = u32At l 24;
-  star = u32At l 28;
-  overall = u32At l 32;
+  listens = listensAt9 form l;
+  arguments = u16At l (10 + moved form);
+  argumentsAt = u16At l (12 + moved form);
+  events = u16At l (14 + moved form);
+  eventsAt = u16At l (16 + moved form);
+  replies = u16At l (18 + moved form);
+  repliesAt = u16At l (20 + moved form);
+  total = u16At l (22 + moved form);
+  p2 = u32At l (24 + moved form);
+  star = u32At l (28 + moved form);
+  overall = u32At l (32 + moved form);
 }
+
+abbrev pub headerOf : List ℕ → Header
+headerOf l = headerIn (formOf (u16At l 0)) l
 
 -- "flags u8 (1 strict, 2 server timing, 4 suppressed client, 8 T present, 16 sub-function present, call 0 only, 32 data present)":
 -- 1 where the flag with this weight is set, and 0 where it is not.
@@ -129,6 +150,11 @@ abbrev pub all : List Bool → Bool
 all [] = true
 all (b ∷ bs) = b && all bs
 
+-- Byte 9 of version 1 is unused; every address can be listened to.
+abbrev pub mostListens : Form → ℕ
+mostListens plain = 0
+mostListens addressed = 65535
+
 -- "Unused fields and bits are zero; flags 1, 2, 4, 8 suit every call"; "Without flag 32 no data bytes; calls 6 and 8 need it."
 abbrev pub fieldsOk : Header → Uses → Bool
 fieldsOk h u =
@@ -140,7 +166,7 @@ fieldsOk h u =
     leb (h .sub) (u .sub + flag 16 h * 255) ∷
     leb (h .addressLength) (u .lengths) ∷
     leb (h .sizeLength) (u .lengths) ∷
-    eqb (h .unused) 0 ∷
+    leb (h .listens) (mostListens (formIn h)) ∷
     leb (h .overall) (flag 8 h * 4294967295) ∷
     leb (h .addressLength + h .sizeLength) (h .arguments) ∷
     leb (h .arguments) (h .addressLength + h .sizeLength + flag 32 h * 65535) ∷ [])
@@ -149,13 +175,13 @@ fieldsOk h u =
 abbrev pub areasOk : Header → ℕ → Bool
 areasOk h n =
     all
-    (eqb (h .argumentsAt) headerSize ∷
-    eqb (h .eventsAt) (headerSize + h .arguments) ∷
-    eqb (h .repliesAt) (h .eventsAt + h .events * eventSize) ∷
+    (eqb (h .argumentsAt) (headerSize (formIn h)) ∷
+    eqb (h .eventsAt) (headerSize (formIn h) + h .arguments) ∷
+    eqb (h .repliesAt) (h .eventsAt + h .events * eventSize (formIn h)) ∷
     eqb (h .total) (h .repliesAt + h .replies) ∷
     eqb (h .total) n ∷ [])
 
--- "kind 3 puts its number in length"; "an event of unknown kind has no unused field"
+-- "kind 3 puts its number in length"; "an event of unknown kind has no unused field". The source is not looked at: "10, not badlog, for a non-zero address on kinds 1 to 3".
 abbrev pub eventOk : Entry → Bool
 eventOk e =
     cond (eqb (e .kind) 1 || eqb (e .kind) 2) (eqb (e .offset) 0 && eqb (e .size) 0)
@@ -170,7 +196,7 @@ abbrev pub argumentBytes : Header → List ℕ → List ℕ
 argumentBytes h l = area l (h .argumentsAt) (h .arguments)
 
 abbrev pub eventBytes : Header → List ℕ → List ℕ
-eventBytes h l = area l (h .eventsAt) (h .events * eventSize)
+eventBytes h l = area l (h .eventsAt) (h .events * eventSize (formIn h))
 
 abbrev pub replyBytes : Header → List ℕ → List ℕ
 replyBytes h l = area l (h .repliesAt) (h .replies)
@@ -179,21 +205,21 @@ replyBytes h l = area l (h .repliesAt) (h .replies)
 abbrev pub laidOut : Header → List ℕ → Bool
 laidOut h l =
     all
-    (leb headerSize (length l) ∷
-    eqb (h .version) 1 ∷
+    (leb (headerSize (formIn h)) (length l) ∷
+    (eqb (h .version) 1 || eqb (h .version) 2) ∷
     leb (h .call) 15 ∷
     areasOk h (length l) ∷
-    every eventOk (entries (eventBytes h l)) ∷ [])
+    every eventOk (entries (formIn h) (eventBytes h l)) ∷ [])
 
 unfoldable pub layoutOk : List ℕ → Bool
 layoutOk l = let h = headerOf l in laidOut h l && fieldsOk h (usesOf (h .call))
 
 -- "Arguments are address, size, data."
 abbrev pub addressOf : Header → List ℕ → Field
-addressOf h l = given (area l headerSize (h .addressLength))
+addressOf h l = given (area l (headerSize (formIn h)) (h .addressLength))
 
 abbrev pub sizeOf : Header → List ℕ → Field
-sizeOf h l = given (area l (headerSize + h .addressLength) (h .sizeLength))
+sizeOf h l = given (area l (headerSize (formIn h) + h .addressLength) (h .sizeLength))
 
 abbrev pub some? : {A : Type 0} → Bool → A → Option A
 some? true x = some x
@@ -201,7 +227,7 @@ some? false x = none
 
 abbrev pub dataOf : Header → List ℕ → Option (List ℕ)
 dataOf h l =
-    some? (eqb (flag 32 h) 1) (area l (headerSize + h .addressLength + h .sizeLength) (h .arguments - (h .addressLength + h .sizeLength)))
+    some? (eqb (flag 32 h) 1) (area l (headerSize (formIn h) + h .addressLength + h .sizeLength) (h .arguments - (h .addressLength + h .sizeLength)))
 
 -- The call of each number, 0 to 15.
 abbrev pub choices : ℕ → ℕ → Option ℕ → Field → Field → Option (List ℕ) → List Call
@@ -240,8 +266,10 @@ settingOf h = record {
 abbrev pub lentOf : Header → List ℕ → Lent
 lentOf h l = record {
   buffer = replicate 4095 0;
+  form = formIn h;
   events = eventBytes h l;
   replies = replyBytes h l;
+  listens = h .listens;
 }
 
 -- The answer of the call that a log asks.

@@ -1,5 +1,5 @@
 -- Rows that pin single clauses: lenient, T against each outcome, what stands just beside a refusal, each limit of refusal 10; what is sent, and the timing afterwards.
-use Prim.Native.Nat.{ℕ}
+use Prim.Native.Nat.{ℕ, _*_}
 use mathlib.Core.Bool.{true, false, _&&_}
 use mathlib.Core.Path.{_≡_}
 use mathlib.Core.List.{List, [], _∷_, map}
@@ -8,7 +8,7 @@ use lib.ListN.{length, replicate}
 use Rattle.rules.specs.Answers.{part, deviation, deviation8, badLength, overflow, positive, suppressed, negative, timeout, disconnected, transport, fault, refused}
 use Rattle.rules.specs.Calls.{Call, request, session, reset, security, testerPresent, readMemory, readIdentifier, writeIdentifier, faultCount, routine, download, upload, transfer, transferExit, given, alfid}
 use Rattle.rules.specs.Bytes.{every}
-use Rattle.rules.specs.Events.{entries, sound, rising, withinLimits}
+use Rattle.rules.specs.Events.{Form, eventSize, entries, sound, rising, withinLimits}
 use Rattle.rules.specs.Examples.{says, idles, closes, breaks, raw, entry, setting, usual, gives, Example, whole, row, runs, tells, one, load}
 use Rattle.rules.specs.Readings.{turned, written}
 use Rattle.rules.specs.Settings.{Setting}
@@ -192,12 +192,12 @@ limits =
     whole true usual (readIdentifier 0xf190) (idles 7 ∷ raw (0x00 ∷ []) ∷ []) (gives (refused 10) 0 0 0 0) (50, 5000) [] ∷
     whole true usual (readIdentifier 0xf190) (raw (replicate 9 0) ∷ []) (gives (refused 10) 0 0 0 0) (50, 5000) [] ∷ []
 
--- "At most 512 events": 5,120 bytes of them are looked at one by one, 5,130 are not. (As rows these would compute for minutes: an entry is found by counting from the list's front.)
+-- "At most 512 events": so many are looked at one by one, 513 are not. (As rows these would compute for minutes: an entry is found by counting from the list's front.)
 abbrev pub AtMost512 : Type 0
 AtMost512 =
-    (events replies : List ℕ)
-    → (length events ≡ 5120 → withinLimits events replies ≡ (rising 0 (entries events) && every (sound replies) (entries events))) ×
-    (length events ≡ 5130 → withinLimits events replies ≡ false)
+    (form : Form) (events replies : List ℕ)
+    → (length events ≡ 512 * eventSize form → withinLimits form events replies ≡ (rising 0 (entries form events) && every (sound replies) (entries form events))) ×
+    (length events ≡ 513 * eventSize form → withinLimits form events replies ≡ false)
 
 abbrev pub Pins : Type 0
 Pins = Hold lenientExchange × Hold lenientCalls × Hold strictBounds × Hold events × Hold overall × Hold requests × Hold beside × Hold limits × AtMost512

@@ -8,6 +8,7 @@ use mathlib.Core.Option.{none, some}
 use lib.ListN.{length, replicate}
 use Rattle.rules.specs.Answers.{Outcome, part, positive, suppressed, timeout, transport, refused}
 use Rattle.rules.specs.Calls.{Call, request, session, reset, security, testerPresent, readMemory, writeMemory, readIdentifier, writeIdentifier, faultCount, routine, download, upload, transfer, transferExit, faultList, Field, given, alfid}
+use Rattle.rules.specs.Events.{plain}
 use Rattle.rules.specs.Client.{call}
 use Rattle.rules.specs.Examples.{Said, says, idles, raw, joined, eventBytes, entry, usual, gives, Example, whole, row}
 use Rattle.rules.specs.Pins.{Hold}
@@ -143,7 +144,7 @@ bufferRows =
     within 1 (transferExit none) [] timeout ∷ []
 
 abbrev pub fits : BufferRow → Outcome
-fits r = call true usual (r .call) (record { buffer = replicate (r .room) 0xee; events = eventBytes 0 (r .said); replies = joined (r .said) }) .answer .outcome
+fits r = call true usual (r .call) (record { buffer = replicate (r .room) 0xee; form = plain; events = eventBytes 0 (r .said); replies = joined (r .said); listens = 0 }) .answer .outcome
 
 -- A timing that lets a time above 65,535 be in time.
 abbrev pub slow : Setting

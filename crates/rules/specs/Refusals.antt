@@ -7,7 +7,7 @@ use lib.Dec.{leb, ltb, eqb}
 use lib.ListN.{length}
 use Rattle.rules.specs.Calls.{Call, request, session, reset, security, testerPresent, readMemory, writeMemory, readIdentifier, writeIdentifier, faultCount, routine, download, upload, transfer, transferExit, faultList, Field, given, alfid, sent}
 use Rattle.rules.specs.InOrder.{Check, unless}
-use Rattle.rules.specs.Events.{withinLimits}
+use Rattle.rules.specs.Events.{Form, withinLimits}
 
 abbrev pub between : ℕ → ℕ → ℕ → Bool
 between least most n = leb least n && leb n most
@@ -54,9 +54,9 @@ arguments (transferExit d) = []
 arguments (faultList mask) = []
 
 -- "8; 9; 10": "request longer than 4,095 bytes", "request buffer shorter than the request", "event list breaks a limit"
-abbrev pub refusals : Call → List ℕ → List ℕ → List ℕ → List ℕ → List (Check ℕ)
-refusals c message buffer events replies =
+abbrev pub refusals : Call → List ℕ → List ℕ → Form → List ℕ → List ℕ → List (Check ℕ)
+refusals c message buffer form events replies =
     arguments c ++
     (unless (leb (length message) 4095) 8 ∷
     unless (leb (length message) (length buffer)) 9 ∷
-    unless (withinLimits events replies) 10 ∷ [])
+    unless (withinLimits form events replies) 10 ∷ [])

@@ -4,6 +4,7 @@ use mathlib.Core.Bool.{Bool}
 use mathlib.Core.List.{List}
 use mathlib.Core.Option.{Option, none, some}
 use Rattle.rules.specs.Calls.{Call, subOf, withBit7, suppresses}
+use Rattle.rules.specs.Events.{Form}
 
 -- "the session record, two numbers that the host lends": P2 and P2*.
 pub record Timing : Type 0 where
@@ -18,11 +19,13 @@ pub record Setting : Type 0 where
   pub serverTiming : Bool
   pub quiet : Bool
 
--- What is lent: the request buffer, the events (ten bytes each) and the reply bytes.
+-- What is lent: the request buffer, the events and their form, and the reply bytes; and the address that the call listens to.
 pub record Lent : Type 0 where
   pub buffer : List ℕ
+  pub form : Form
   pub events : List ℕ
   pub replies : List ℕ
+  pub listens : ℕ
 
 -- Suppression is bit 7 of the sub-function that is sent, whoever set it.
 abbrev pub suppressing : Setting → Call → Bool

@@ -21,13 +21,13 @@ abbrev pub narrow : ℕ → ℕ → List (Check ℕ)
 narrow v w = unless (between 1 8 w) 6 ∷ unless (ltb v (256 ^ w)) 7 ∷ []
 
 -- "Calls 5, 6, 11 and 12 have an `alfid` form".
-pub data Form : Type 0 where
-  reads : Form
-  writes : List ℕ → Form
-  downloads : ℕ → ℕ → Form
-  uploads : ℕ → ℕ → Form
+pub data MemoryCall : Type 0 where
+  reads : MemoryCall
+  writes : List ℕ → MemoryCall
+  downloads : ℕ → ℕ → MemoryCall
+  uploads : ℕ → ℕ → MemoryCall
 
-abbrev pub asks : Form → Field → Field → Call
+abbrev pub asks : MemoryCall → Field → Field → Call
 asks reads a s = readMemory a s
 asks (writes d) a s = writeMemory a s d
 asks (downloads c e) a s = download c e a s
@@ -38,14 +38,14 @@ asks (uploads c e) a s = upload c e a s
 -- number of 64 bits is padded with zeros on the left.
 pub record Wide : Type 0 where
   pub off : (v w : ℕ) → width (alfid v w false) ≡ narrow v w
-  pub as-off : (strict : Bool) (x : Setting) (f : Form) (v w u w′ : ℕ) (l : Lent) → between 1 8 w ≡ true → between 1 8 w′ ≡ true
+  pub as-off : (strict : Bool) (x : Setting) (f : MemoryCall) (v w u w′ : ℕ) (l : Lent) → between 1 8 w ≡ true → between 1 8 w′ ≡ true
       → call strict x (asks f (alfid v w true) (alfid u w′ true)) l ≡ call strict x (asks f (alfid v w false) (alfid u w′ false)) l
   pub long : (v w : ℕ) (wide : Bool) → length (sent (alfid v w wide)) ≡ w
   pub back : (v w : ℕ) (wide : Bool) → v < 256 ^ w → value (sent (alfid v w wide)) ≡ v
   pub padded : (v w : ℕ) → v < 2 ^ 64 → 8 ≤ w → sent (alfid v w true) ≡ replicate (w - 8) 0 ++ bytesOf 8 v
 
 -- Widths under the setting: 1 and 15 are taken, 0 and 16 are not; each field by its own setting; "7 and the order stay".
-abbrev pub widths : Form → List Example
+abbrev pub widths : MemoryCall → List Example
 widths f =
     row true usual (asks f (alfid 255 1 true) (alfid 18446744073709551615 15 true)) [] (gives timeout 50 0 0 0) ∷
     row true usual (asks f (alfid 1 15 true) (alfid 255 1 true)) [] (gives timeout 50 0 0 0) ∷

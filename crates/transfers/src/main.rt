@@ -2,6 +2,8 @@
 use blocks::Cut;
 use calls::Answered;
 use calls::Ask;
+use exchange::types::Channel;
+use exchange::types::Form;
 use exchange::types::NoticeLimit;
 use exchange::types::RequestTimeout;
 use exchange::types::Timing;
@@ -68,6 +70,10 @@ fn identify() {
         server: false,
         overall: RequestTimeout::Never,
         limit: NoticeLimit::Unlimited,
+        channel: Channel {
+            form: Form::Plain,
+            listens: 0,
+        },
     };
     let mut request = [0u8; 64];
     let events = [0, 0, 0, 8, 0, 0, 0, 0, 0, 8];

@@ -23,10 +23,11 @@ use Rattle.uds.specs.Clients.{askOf, Asks}
 use Rattle.uds.specs.declared.UDSClient.{UDSClient}
 
 -- What is asked is the client's: `f` says the call with what stands beside it.
-pub as-asked : (u : UDSClient) (quiet : Bool) (k : Call) (f : Call → calls.Call) {l : Lent} {r : Answered} {b : List ℕ} {a : Ask} → a ≡ askOf u quiet k
-    → Called (a .strict) (settingOf a (u .session)) (f (a .call)) l r b
-    → Called (u .config .strict) (settingOf (askOf u quiet call.TesterPresent) (u .session)) (f k) l r b
-as-asked u quiet k f {l} {r} {b} e = subst (λ (x : Ask). Called (x .strict) (settingOf x (u .session)) (f (x .call)) l r b) e
+pub as-asked : (u : UDSClient) (quiet : Bool) (k : Call) (f : Call → calls.Call) {before events replies : List ℕ} {r : Answered} {b : List ℕ} {a : Ask} → a ≡ askOf u quiet k
+    → Called (a .strict) (settingOf a (u .session)) (f (a .call)) (lentOf (a .channel) before events replies) r b
+    → Called (u .config .strict) (settingOf (askOf u quiet call.TesterPresent) (u .session)) (f k) (lentOf (u .config .channel) before events replies) r b
+as-asked u quiet k f {before} {events} {replies} {r} {b} e =
+    subst (λ (x : Ask). Called (x .strict) (settingOf x (u .session)) (f (x .call)) (lentOf (x .channel) before events replies) r b) e
 
 module _ (u : UDSClient) (quiet : Bool) (c : calls.Call) (before events replies : List ℕ) where
   -- How the client makes the call, and what is lent to it.
@@ -34,7 +35,7 @@ module _ (u : UDSClient) (quiet : Bool) (c : calls.Call) (before events replies 
   made = settingOf (askOf u quiet call.TesterPresent) (u .session)
 
   abbrev lent : Lent
-  lent = lentOf before events replies
+  lent = lentOf (u .config .channel) before events replies
 
   module _ {r : Answered} {after : List ℕ} (asks : Asks u quiet c before events replies r after) where
     pub demand-1 : {n : ℕ} → answerOf replies (r .answer) .outcome ≡ rules.refused n → Untouched made c lent n (resultOf replies r after)

@@ -24,9 +24,10 @@ askOf u quiet k = record {
   server = u .config .«use_server_timing»;
   overall = u .config .«request_timeout»;
   limit = u .config .«notice_limit»;
+  channel = u .config .channel;
 }
 
 -- The client makes this call over what is lent, and is answered so.
 abbrev pub Asks : UDSClient → Bool → rules.Call → List ℕ → List ℕ → List ℕ → Answered → List ℕ → Type 0
 Asks u quiet c before events replies r after =
-    Called (u .config .strict) (settingOf (askOf u quiet call.TesterPresent) (u .session)) c (lentOf before events replies) r after
+    Called (u .config .strict) (settingOf (askOf u quiet call.TesterPresent) (u .session)) c (lentOf (u .config .channel) before events replies) r after

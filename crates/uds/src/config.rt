@@ -1,4 +1,6 @@
 // How a client makes its calls.
+use exchange::types::Channel;
+use exchange::types::Form;
 use exchange::types::NoticeLimit;
 use exchange::types::RequestTimeout;
 ghost use mathlib.Core.Path.{_≡_};
@@ -20,13 +22,19 @@ pub struct UDSConfig {
     pub wide: bool,
     // Not the Rust's: how many notices (NRC 0x78) a call bears; the one after ends it with `PendingLimit`.
     pub notice_limit: NoticeLimit,
+    // Not the Rust's: the address that is listened to on a channel that several controllers answer on, and how its events are lent.
+    pub channel: Channel,
 }
 
 impl UDSConfig {
-    // P2 50 ms, P2* five seconds, no overall limit, server timing and strict on, wide off, no limit of notices.
+    // P2 50 ms, P2* five seconds, no overall limit, server timing and strict on, wide off, no limit of notices, events without addresses.
     pub fn default() -> UDSConfig
         ensures { λ r. ⌜ r ≡ defaults ⌝ }
     {
+        let channel = Channel {
+            form: Form::Plain,
+            listens: 0,
+        };
         UDSConfig {
             p2_timeout: 50,
             p2_star_timeout: 5000,
@@ -35,6 +43,7 @@ impl UDSConfig {
             strict: true,
             wide: false,
             notice_limit: NoticeLimit::Unlimited,
+            channel,
         }
     }
 }

@@ -63,6 +63,7 @@ impl UDSClient {
         let config = self.config;
         let overall = config.request_timeout;
         let limit = config.notice_limit;
+        let channel = config.channel;
         Ask {
             call,
             quiet,
@@ -70,6 +71,7 @@ impl UDSClient {
             server: config.use_server_timing,
             overall,
             limit,
+            channel,
         }
     }
 

@@ -289,18 +289,23 @@ fn smaller(case: &Case) -> Vec<Case> {
     cases
 }
 
-/// Leaves only the reply bytes that events name.
+/// Leaves only the reply bytes that events name. A list that breaks a limit stays.
 fn pack(case: &mut Case) {
+    if !direct::sound_events(&case.events, &case.replies) {
+        return;
+    }
     let mut packed = Case::new(case.call.clone(), case.setting);
     for &Event {
         time,
         kind,
         offset,
         length,
+        source,
     } in &case.events
     {
         if kind == 0 {
-            packed.reply(
+            packed.reply_from(
+                source,
                 time,
                 &case.replies[offset as usize..offset as usize + length as usize],
             );

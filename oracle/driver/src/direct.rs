@@ -1,4 +1,4 @@
-//! Document 01's rules, and document 02's for call 15 and for the limit of notices, as a small direct program without async,
+//! Document 01's rules, and document 02's for call 15, the limit of notices and addresses, as a small direct program without async,
 //! written from these with the original in mind: a second opinion, and the baseline of the measurements.
 
 use crate::model::{
@@ -122,12 +122,12 @@ fn refused_arguments(call: &Call) -> Option<u8> {
 }
 
 /// Refusal 10: whether the event list breaks no limit.
-fn sound_events(events: &[Event], replies: &[u8]) -> bool {
+pub fn sound_events(events: &[Event], replies: &[u8]) -> bool {
     let sound = |event: &Event| match event.kind {
         REPLY => {
             event.length <= 4095 && event.offset as usize + event.length as usize <= replies.len()
         }
-        IDLE | END | ERROR => true,
+        IDLE | END | ERROR => event.source == 0,
         _ => false,
     };
     events.len() <= 512
@@ -294,6 +294,7 @@ fn exchange(case: &Case) -> Answer {
         events_to_overall += (time <= overall) as usize;
         match event.kind {
             IDLE => continue,
+            _ if case.is_foreign(event) => continue,
             END => settled = Some((Verdict::Disconnected, time)),
             ERROR => settled = Some((Verdict::Transport(event.length), time)),
             _ => {

@@ -2,6 +2,7 @@
 //! Faults in a copy of the original are `oracle/faults`'.
 
 use crate::compare::{differences, has_counterpart, Side};
+use crate::foreign;
 use crate::limited;
 use crate::model::{Call, Case, Memory, Observed, ERROR, IDLE, REPLY};
 use crate::original::Original;
@@ -152,6 +153,35 @@ const LIMIT_FAULTS: [Fault; 2] = [
     },
 ];
 
+/// Faults in addresses, which the cases of `foreign` must notice.
+const ADDRESS_FAULTS: [Fault; 2] = [
+    Fault {
+        name: "a foreign notice moves the deadline",
+        put_in: |case| {
+            let notice = [0x7f, case.call.sid(), 0x78];
+            let listens = case.listens();
+            for event in &mut case.events {
+                let end = event.offset as usize + event.length as usize;
+                let said = case.replies.get(event.offset as usize..end);
+                if event.kind == REPLY && said == Some(&notice[..]) {
+                    event.source = listens;
+                }
+            }
+        },
+    },
+    Fault {
+        name: "address 0 is heard by everyone",
+        put_in: |case| {
+            let listens = case.listens();
+            for event in &mut case.events {
+                if event.kind == REPLY && event.source == 0 {
+                    event.source = listens;
+                }
+            }
+        },
+    },
+];
+
 /// The cases with what the original does.
 fn judged_cases(seed: u64) -> Vec<(Case, Observed)> {
     let mut original = Original::default();
@@ -210,7 +240,15 @@ pub fn faults(side: Side, seed: u64) -> Result<usize, String> {
         let with = noticed(&cases, side, *put_in);
         say(name, with.0 > 0, with);
     }
-    let all = FAULTS.len() + LIMIT_FAULTS.len() + 2;
+    let cases = foreign::judged_cases(seed);
+    println!("{} cases with foreign replies.", cases.len());
+    let without = noticed(&cases, side, |_| {});
+    say("no fault in addresses", without.0 == 0, without);
+    for Fault { name, put_in } in &ADDRESS_FAULTS {
+        let with = noticed(&cases, side, *put_in);
+        say(name, with.0 > 0, with);
+    }
+    let all = FAULTS.len() + LIMIT_FAULTS.len() + ADDRESS_FAULTS.len() + 3;
     println!("{} passed, {failed} failed", all - failed);
     Ok(failed)
 }

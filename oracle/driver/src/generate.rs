@@ -2,7 +2,7 @@
 //! copies of good conversations. Seeded, so that a run can be repeated.
 
 use crate::direct;
-use crate::model::{Call, Case, Memory, Setting, END, ERROR, IDLE};
+use crate::model::{Call, Case, Event, Memory, Setting, END, ERROR, IDLE, REPLY};
 use crate::rng::Rng;
 
 pub type Visit<'v> = dyn FnMut(&Case) + 'v;
@@ -514,6 +514,7 @@ fn some_case(rng: &mut Rng, calls: &[Call]) -> Case {
         p2_star,
         overall: rng.once_in(3).then(|| rng.below(12000) as u32),
         limit: None,
+        listens: None,
     };
     Case::new(call, setting)
 }
@@ -636,6 +637,114 @@ pub fn waiting(rng: &mut Rng, cases: usize, visit: &mut Visit) {
         }
         visit(&case);
     }
+}
+
+/// The case with addresses: its call listens to one, and all its replies come from there.
+pub fn addressed(rng: &mut Rng, case: &Case) -> Case {
+    let mut case = case.clone();
+    let listens = match rng.below(8) {
+        0 => 0,
+        1 => rng.next() as u16,
+        2 => rng.pick(&[1, 0xff, 0x100, 0xffff]),
+        _ => 0x7e8,
+    };
+    case.setting.listens = Some(listens);
+    for event in &mut case.events {
+        event.source = if event.kind == REPLY { listens } else { 0 };
+    }
+    case
+}
+
+/// What a foreign reply says: anything that would matter from the address listened to.
+fn foreign_reply(rng: &mut Rng, call: &Call) -> Vec<u8> {
+    let sid = call.sid();
+    match rng.below(10) {
+        0 => vec![],
+        1 => vec![0x7f],
+        2 | 3 => notice(call).to_vec(),
+        4 => vec![0x7f, sid, rng.byte()],
+        5 => vec![sid | 0x40],
+        6 => {
+            let mut reply = good_reply(call, rng);
+            damage(rng, &mut reply);
+            reply.truncate(4095);
+            reply
+        }
+        7 => {
+            let n = rng.pick(&[1, 2, 3, 9]);
+            rng.bytes(n)
+        }
+        _ => good_reply(call, rng),
+    }
+}
+
+/// The case with replies from other addresses among its events, at times that do not fall: with those of the events around
+/// them, at and around P2, T and P2* after an event. Once in a while one breaks a limit, or another event has an address.
+pub fn mixed(rng: &mut Rng, ours: &Case) -> Case {
+    let mut case = ours.clone();
+    let listens = case.listens();
+    let count = if rng.once_in(200) {
+        512usize.saturating_sub(case.events.len()) + rng.below(2)
+    } else {
+        rng.between(1, 6)
+    };
+    for _ in 0..count {
+        let at = rng.below(case.events.len() + 1);
+        let before = at.checked_sub(1).map_or(0, |at| case.events[at].time);
+        let after = case.events.get(at).map_or(u32::MAX, |event| event.time);
+        let Setting {
+            p2,
+            p2_star,
+            overall,
+            ..
+        } = case.setting;
+        let (soon, any) = (rng.below(100) as u32, rng.next() as u16);
+        let near = rng.pick(&[
+            before,
+            after,
+            p2,
+            overall.unwrap_or(p2),
+            before.saturating_add(p2_star),
+            before.saturating_add(soon),
+        ]);
+        let near = rng.pick(&[near, near, near.saturating_sub(1), near.saturating_add(1)]);
+        let source = rng.pick(&[0, listens ^ 1, listens.swap_bytes(), any]);
+        let source = if source == listens { !listens } else { source };
+        let reply = foreign_reply(rng, &case.call);
+        let mut event = Event {
+            time: near.max(before).min(after),
+            kind: REPLY,
+            offset: case.replies.len() as u16,
+            length: reply.len() as u16,
+            source,
+        };
+        let next = case.events.get(at).filter(|next| next.kind == REPLY);
+        if let (true, Some(next)) = (rng.once_in(4), next) {
+            // The same bytes as the next reply's.
+            (event.offset, event.length) = (next.offset, next.length);
+        } else if case.replies.len() + reply.len() < 65_536 {
+            case.replies.extend(reply);
+        } else {
+            (event.offset, event.length) = (0, 0);
+        }
+        case.events.insert(at, event);
+    }
+    if rng.once_in(40) {
+        let at = rng.below(case.events.len());
+        let most = case.replies.len() as u16;
+        let event = &mut case.events[at];
+        match event.kind {
+            IDLE | END | ERROR => event.source = rng.pick(&[listens | 1, 1, 0xffff]),
+            REPLY if event.source == listens => {}
+            _ => match rng.below(4) {
+                0 => event.offset = most.saturating_sub(event.length).saturating_add(1),
+                1 => event.length = 4096,
+                2 => event.time = event.time.wrapping_sub(1),
+                _ => event.kind = rng.pick(&[4, 256]),
+            },
+        }
+    }
+    case
 }
 
 /// Call 0 with every SID, with and without sub-function and data.

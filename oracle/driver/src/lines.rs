@@ -2,9 +2,9 @@
 
 use crate::model::{Call, Case, Data, Observed, Outcome};
 use crate::original::Original;
-use crate::{direct, log};
+use crate::{direct, foreign, log};
 
-/// Where a line comes from.
+/// Where a line comes from. Of a log of version 2 the original gets the events left once foreign replies are dropped.
 #[derive(Debug, Clone, Copy, PartialEq, Eq)]
 pub enum Source {
     Original,
@@ -26,7 +26,7 @@ pub fn line_of(original: &mut Original, log: &[u8]) -> (String, Source) {
             Source::NoCounterpart(number),
         ),
         _ => {
-            let mut observed = original.run(&case);
+            let mut observed = foreign::right(original, &case);
             if observed.outcome == Outcome::Positive(Data::NotHandedOut) {
                 let data = handed_by_rule(&case, &observed).to_vec();
                 observed.outcome = Outcome::Positive(Data::Bytes(data));

@@ -1,11 +1,21 @@
-//! Document 01's log: from a case to its bytes and back, and from an observation to its line. A file of logs has each
-//! log after its length as u32, big-endian.
+//! Document 01's log, and document 02's version 2 of it: from a case to its bytes and back, and from an observation to its
+//! line. A file of logs has each log after its length as u32, big-endian.
 
 use crate::model::{Call, Case, Data, Event, Memory, Observed, Outcome, Setting};
 use std::fmt::Write;
 
+/// Of version 1; the header of version 2 has one byte more, its events two.
 const HEADER: usize = 36;
 const EVENT: usize = 10;
+
+/// How much further stands what comes after byte 9, and how many bytes an event has.
+fn layout(addressed: bool) -> (usize, usize) {
+    if addressed {
+        (1, EVENT + 2)
+    } else {
+        (0, EVENT)
+    }
+}
 
 pub const BADLOG: &str = "badlog 0 0 0 -";
 
@@ -48,19 +58,23 @@ const USES: [(u16, bool, bool, u8); 16] = [
 
 /// The case that a log says, or none where its layout is bad.
 pub fn read(log: &[u8]) -> Option<Case> {
-    if log.len() < HEADER || u16_at(log, 0) != 1 || log[2] > 15 {
+    let addressed = log.starts_with(&[0, 2]);
+    let (moved, event_size) = layout(addressed);
+    let header = HEADER + moved;
+    if log.len() < header || !(addressed || log.starts_with(&[0, 1])) || log[2] > 15 {
         return None;
     }
+    let field = |at: usize| u16_at(log, at + moved) as usize;
     let (number, flags) = (log[2], log[3]);
     let flag = |weight| flags & weight != 0;
     let (value, sub, address_length, size_length) = (u16_at(log, 4), log[6], log[7], log[8]);
     let (largest_value, uses_sub, uses_lengths, data_rule) = USES[number as usize];
     let lengths = address_length as usize + size_length as usize;
-    let (argument_count, arguments_at) = (u16_at(log, 10) as usize, u16_at(log, 12) as usize);
-    let (event_count, events_at) = (u16_at(log, 14) as usize, u16_at(log, 16) as usize);
-    let (reply_count, replies_at) = (u16_at(log, 18) as usize, u16_at(log, 20) as usize);
-    let total = u16_at(log, 22) as usize;
-    let overall = u32_at(log, 32);
+    let (argument_count, arguments_at) = (field(10), field(12));
+    let (event_count, events_at) = (field(14), field(16));
+    let (reply_count, replies_at) = (field(18), field(20));
+    let total = field(22);
+    let overall = u32_at(log, 32 + moved);
 
     let fields = flags < 64
         && (number == 0 || !flag(SUB))
@@ -69,20 +83,20 @@ pub fn read(log: &[u8]) -> Option<Case> {
         && value <= largest_value
         && (uses_sub || flag(SUB) || sub == 0)
         && (uses_lengths || lengths == 0)
-        && log[9] == 0
+        && (addressed || log[9] == 0)
         && (flag(OVERALL) || overall == 0)
         && argument_count >= lengths
         && (flag(DATA) || argument_count == lengths);
-    let areas = arguments_at == HEADER
+    let areas = arguments_at == header
         && events_at == arguments_at + argument_count
-        && replies_at == events_at + event_count * EVENT
+        && replies_at == events_at + event_count * event_size
         && total == replies_at + reply_count
         && total == log.len();
     if !fields || !areas {
         return None;
     }
 
-    let events = events_of(&log[events_at..replies_at]);
+    let events = events_of(&log[events_at..replies_at], addressed);
     let unused_are_zero = |event: &Event| match event.kind {
         1 | 2 => event.offset == 0 && event.length == 0,
         3 => event.offset == 0,
@@ -100,10 +114,12 @@ pub fn read(log: &[u8]) -> Option<Case> {
         size: size.to_vec(),
     };
     let call = call_of(number, flags, value, sub, memory, rest);
-    let times = [u32_at(log, 24), u32_at(log, 28), overall];
+    let times = [u32_at(log, 24 + moved), u32_at(log, 28 + moved), overall];
+    let mut setting = setting_of(flags, times);
+    setting.listens = addressed.then(|| u16_at(log, 9));
     Some(Case {
         call,
-        setting: setting_of(flags, times),
+        setting,
         events,
         replies: log[replies_at..].to_vec(),
     })
@@ -166,18 +182,20 @@ pub fn setting_of(flags: u8, [p2, p2_star, overall]: [u32; 3]) -> Setting {
         p2_star,
         overall: flag(OVERALL).then_some(overall),
         limit: None,
+        listens: None,
     }
 }
 
 /// The events that stand in an area of events.
-pub fn events_of(area: &[u8]) -> Vec<Event> {
+pub fn events_of(area: &[u8], addressed: bool) -> Vec<Event> {
     let event = |entry: &[u8]| Event {
         time: u32_at(entry, 0),
         kind: u16_at(entry, 4),
         offset: u16_at(entry, 6),
         length: u16_at(entry, 8),
+        source: if addressed { u16_at(entry, 10) } else { 0 },
     };
-    area.chunks_exact(EVENT).map(event).collect()
+    area.chunks_exact(layout(addressed).1).map(event).collect()
 }
 
 /// Flags, value and sub of a header, and its three times.
@@ -232,13 +250,17 @@ pub fn fields_of(case: &Case) -> Fields {
 }
 
 /// The area of events.
-pub fn event_bytes(events: &[Event]) -> Vec<u8> {
-    let mut area = Vec::with_capacity(events.len() * EVENT);
-    for event in events {
+pub fn event_bytes(case: &Case) -> Vec<u8> {
+    let addressed = case.setting.listens.is_some();
+    let mut area = Vec::with_capacity(case.events.len() * layout(addressed).1);
+    for event in &case.events {
         area.extend(event.time.to_be_bytes());
         area.extend(event.kind.to_be_bytes());
         area.extend(event.offset.to_be_bytes());
         area.extend(event.length.to_be_bytes());
+        if addressed {
+            area.extend(event.source.to_be_bytes());
+        }
     }
     area
 }
@@ -254,20 +276,26 @@ pub fn write(case: &Case) -> Option<Vec<u8>> {
     let data = case.call.data().unwrap_or_default();
     let fields = fields_of(case);
     let arguments = address.len() + size.len() + data.len();
-    let events_at = HEADER + arguments;
-    let replies_at = events_at + case.events.len() * EVENT;
+    let (moved, event_size) = layout(case.setting.listens.is_some());
+    let header = HEADER + moved;
+    let events_at = header + arguments;
+    let replies_at = events_at + case.events.len() * event_size;
     let total = replies_at + case.replies.len();
 
     let mut log = Vec::with_capacity(total);
-    log.extend([0, 1, case.call.number(), fields.flags]);
+    let version = 1 + case.setting.listens.is_some() as u8;
+    log.extend([0, version, case.call.number(), fields.flags]);
     log.extend(fields.value.to_be_bytes());
     log.push(fields.sub);
     log.push(address.len().try_into().ok()?);
     log.push(size.len().try_into().ok()?);
-    log.push(0);
+    match case.setting.listens {
+        None => log.push(0),
+        Some(address) => log.extend(address.to_be_bytes()),
+    }
     for number in [
         arguments,
-        HEADER,
+        header,
         case.events.len(),
         events_at,
         case.replies.len(),
@@ -280,7 +308,7 @@ pub fn write(case: &Case) -> Option<Vec<u8>> {
     log.extend(address);
     log.extend(size);
     log.extend(data);
-    log.extend(event_bytes(&case.events));
+    log.extend(event_bytes(case));
     log.extend(&case.replies);
     Some(log)
 }

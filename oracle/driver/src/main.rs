@@ -5,6 +5,7 @@
 mod compare;
 mod direct;
 mod faults;
+mod foreign;
 mod generate;
 mod limited;
 mod lines;
@@ -25,6 +26,8 @@ oracle sample SIDE [SEED]          the same on some of each kind of them
 oracle faults SIDE [SEED]          that faults in the inputs of SIDE are noticed
 oracle limited SIDE [SEED]         SIDE under limits of notices, which the original does not have
 oracle limits SIDE LOGS EXPECTED   the line of each log under the limit that its expected line begins with
+oracle foreign SIDE [SEED]         SIDE on events with source addresses, which the original does not have
+oracle logs SIDE LOGS EXPECTED     SIDE's line of each log, of either version
 oracle list PREFIX [SEED]          writes the fixed list, PREFIX.bin and PREFIX.expected
 oracle time [SEED] [LOGS]          what a call costs, on the logs of a file too
 SIDE is direct or, where the driver was built with it, proved. SEED is a number, 1 if left out.";
@@ -61,6 +64,8 @@ fn run(words: &[&str]) -> Result<usize, String> {
         ["faults", name, more @ ..] => faults::faults(side(name)?, seed(more.first())?),
         ["limited", name, more @ ..] => limited::limited(side(name)?, seed(more.first())?),
         ["limits", name, logs, expected] => limited::limits(side(name)?, logs, expected),
+        ["foreign", name, more @ ..] => foreign::foreign(side(name)?, seed(more.first())?),
+        ["logs", name, logs, expected] => foreign::logs(side(name)?, logs, expected),
         ["list", prefix, more @ ..] => list::list(prefix, seed(more.first())?),
         ["time", number, logs] => time::time(seed(Some(number))?, Some(logs)),
         ["time", more @ ..] => time::time(seed(more.first())?, None),

@@ -205,6 +205,8 @@ pub struct Setting {
     pub overall: Option<u32>,
     /// Document 02's limit of notices, which the original does not have.
     pub limit: Option<u8>,
+    /// Document 02's address that the call listens to, which the original does not have; none if events have no addresses.
+    pub listens: Option<u16>,
 }
 
 impl Default for Setting {
@@ -217,6 +219,7 @@ impl Default for Setting {
             p2_star: 5000,
             overall: None,
             limit: None,
+            listens: None,
         }
     }
 }
@@ -228,6 +231,8 @@ pub struct Event {
     pub kind: u16,
     pub offset: u16,
     pub length: u16,
+    /// The source address; 0 where events have none.
+    pub source: u16,
 }
 
 #[derive(Debug, Clone, PartialEq, Eq)]
@@ -255,16 +260,43 @@ impl Case {
         self
     }
 
-    /// Adds a reply at this time.
+    /// The address listened to.
+    pub fn listens(&self) -> u16 {
+        self.setting.listens.unwrap_or(0)
+    }
+
+    /// Adds a reply at this time, from the address listened to.
     pub fn reply(&mut self, time: u32, bytes: &[u8]) -> &mut Case {
+        self.reply_from(self.listens(), time, bytes)
+    }
+
+    pub fn reply_from(&mut self, source: u16, time: u32, bytes: &[u8]) -> &mut Case {
         self.events.push(Event {
             time,
             kind: REPLY,
             offset: self.replies.len() as u16,
             length: bytes.len() as u16,
+            source,
         });
         self.replies.extend_from_slice(bytes);
         self
+    }
+
+    /// A reply from another address than the one listened to.
+    pub fn is_foreign(&self, event: &Event) -> bool {
+        event.kind == REPLY && event.source != self.listens()
+    }
+
+    /// How many of these events are foreign replies.
+    pub fn foreign(&self, events: &[Event]) -> usize {
+        events.iter().filter(|event| self.is_foreign(event)).count()
+    }
+
+    /// What is left once foreign replies are dropped; the reply bytes stay.
+    pub fn left(&self) -> Case {
+        let mut left = self.clone();
+        left.events.retain(|event| !self.is_foreign(event));
+        left
     }
 
     /// Adds an event without reply bytes; `number` is that of a transport error.
@@ -274,6 +306,7 @@ impl Case {
             kind,
             offset: 0,
             length: number,
+            source: 0,
         });
         self
     }

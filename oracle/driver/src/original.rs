@@ -1,6 +1,6 @@
 //! One case on the original under tokio's paused clock: a mock transport plays the events at their times, and what the
-//! client did is read off its result, off the mock and off further exchanges of the same client. A limit of notices, which
-//! it does not have, changes nothing.
+//! client did is read off its result, off the mock and off further exchanges of the same client. A limit of notices and
+//! addresses, which it does not have, change nothing.
 
 use crate::model::{Call, Case, Data, Event, Memory, Observed, Outcome, END, ERROR, IDLE, REPLY};
 use automotive::protocols::uds::{
@@ -479,6 +479,7 @@ const NOTICE_AT_0: [Event; 1] = [Event {
     kind: REPLY,
     offset: 0,
     length: 3,
+    source: 0,
 }];
 
 async fn observe(case: &Case, probe: bool) -> Observed {

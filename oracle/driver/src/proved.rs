@@ -23,6 +23,7 @@ pub fn prepare(case: &Case) -> Prepared {
         suppressed: setting.quiet,
         overall: setting.overall,
         notice_limit: setting.limit,
+        listens: setting.listens,
         wide: false,
     };
     Prepared {
@@ -31,7 +32,7 @@ pub fn prepare(case: &Case) -> Prepared {
             p2: setting.p2,
             p2_star: setting.p2_star,
         },
-        events: log::event_bytes(&case.events),
+        events: log::event_bytes(case),
         replies: case.replies.clone(),
     }
 }

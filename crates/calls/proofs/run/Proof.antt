@@ -16,12 +16,12 @@ given t =
       a = x .address .now;
       s = x .size .now;
       d = x .«data» .now;
-      lent = lentOf (x .request .now) (x .events .now) (x .replies .now);
+      lent = lentOf (x .ask .channel) (x .request .now) (x .events .now) (x .replies .now);
     }
 
 -- What was given, seen from behind `prepare`.
 abbrev behind : tie.After-prepare → Given
-behind c = given (c .before .before .before .before .before .before .before)
+behind c = given (c .before .before .before .before .before .before .before .before)
 
 prepare-requires : tie.Need-prepare-requires
 prepare-requires c κs = search needs

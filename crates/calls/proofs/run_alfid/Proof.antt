@@ -23,7 +23,7 @@ given t =
       w′ = x .size-width;
       wide = x .wide;
       d = x .«data» .now;
-      lent = lentOf (x .request .now) (x .events .now) (x .replies .now);
+      lent = lentOf (x .ask .channel) (x .request .now) (x .events .now) (x .replies .now);
     }
 
 -- What was given, seen from behind the question whether the call takes both; and the answer.

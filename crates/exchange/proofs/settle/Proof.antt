@@ -4,27 +4,30 @@ use native.Mathlib.Omega.{arith}
 use mathlib.Core.Option.{Option}
 use borrow.Author.Needs.{needs}
 use Rattle.exchange.proofs.Settling.{Held, held-first, no-more, too-late, after-on, ends-it}
-use Rattle.exchange.specs.Meaning.{askedOf, overallOf}
+use Rattle.exchange.specs.Meaning.{askedOf, overallOf, formOf}
 use Rattle.exchange.proofs.settle.Statement.{statement}
 use Rattle.exchange.proofs.settle.Tie as tie
 
 abbrev Inv-loop : tie.InvT-loop
-Inv-loop strict asked overall events replies n i₀ state₀ i state = Held strict (askedOf asked) (overallOf overall) events replies n i state
+Inv-loop strict asked overall events replies form listens n i₀ state₀ i state = Held strict (askedOf asked) (overallOf overall) (formOf form) listens events replies n i state
 
 abbrev μ-loop : tie.MeasureT-loop
-μ-loop strict asked overall events replies n i₀ state₀ i state = n - i
+μ-loop strict asked overall events replies form listens n i₀ state₀ i state = n - i
 
 -- The overall timeout, seen from a list with one event more.
 abbrev overall : tie.Else1 Inv-loop μ-loop → Option ℕ
-overall more = overallOf (more .before .before .before .before .before .args .overall)
+overall more = overallOf (more .before .before .before .before .before .before .args .overall)
+
+event-count-requires : tie.Need-event-count-requires Inv-loop μ-loop
+event-count-requires c κs = search needs
 
 start-requires : tie.Need-start-requires Inv-loop μ-loop
 start-requires c κs = search needs
 
 loop-holds : tie.Need-loop-holds Inv-loop μ-loop
 loop-holds c =
-    let begin = c .before .before .before in
-    held-first (overallOf (begin .args .overall)) (begin .pre) (c .start .ensures)
+    let begin = c .before .before .before .before in
+    held-first (overallOf (begin .args .overall)) (begin .pre) (c .before .event-count .ensures) (c .start .ensures)
 
 silence-requires : tie.Need-silence-requires Inv-loop μ-loop
 silence-requires c κs = search needs
@@ -63,7 +66,7 @@ loop-again c =
     let event = early .before .before .before in
     let more = event .before in
     after-on (overall more) (more .before .loop .inv) (event .event-at .ensures) (more .if1 .left) (turned .turn .ensures) (early .if2 .left)
-    (omega (arith, more .before .before .before .before .before .good)) (c .before .next .given .1)
+    (c .before .next .given .1)
 
 enum-known-settled : tie.Need-enum-known-settled Inv-loop μ-loop
 enum-known-settled c = search needs
@@ -74,7 +77,7 @@ under-requires-3 c κs = search needs
 returns : tie.Need-returns Inv-loop μ-loop
 returns c =
     let at = c .before .before .before in
-    no-more (overallOf (at .before .before .before .before .args .overall)) (at .loop .inv) (c .before .silence .ensures) (c .under .ensures) (c .before .before .if1 .taken)
+    no-more (overallOf (at .before .before .before .before .before .args .overall)) (at .loop .inv) (c .before .silence .ensures) (c .under .ensures) (c .before .before .if1 .taken)
 
 returns-2 : tie.Need-returns-2 Inv-loop μ-loop
 returns-2 c =
@@ -90,7 +93,7 @@ returns-3 c =
     let event = early .before .before .before in
     let more = event .before in
     ends-it (overall more) (more .before .loop .inv) (event .event-at .ensures) (more .if1 .left) (turned .turn .ensures) (early .if2 .left)
-    (omega (arith, more .before .before .before .before .before .good)) (c .before .before .settled .given .1) (c .under3 .ensures)
+    (c .before .before .settled .given .1) (c .under3 .ensures)
 
 pub settle-spec : {M : Type 1} → statement M
 settle-spec =
@@ -98,6 +101,7 @@ settle-spec =
     (tie.spec
     Inv-loop
     μ-loop
+    event-count-requires
     start-requires
     loop-holds
     silence-requires

@@ -5,6 +5,13 @@ use Rattle.exchange.proofs.turn.Statement.{statement}
 use Rattle.exchange.proofs.turn.Tie as tie
 use Rattle.exchange.proofs.turn.Reads as reads
 
+-- What was said of the kind, seen from behind the first count.
+abbrev heard : tie.After-counted → tie.After-kind-heard
+heard c = c .before .before .before
+
+kind-heard-requires : tie.Need-kind-heard-requires
+kind-heard-requires c κs = search needs
+
 cast-time : tie.Need-cast-time
 cast-time c = search needs
 
@@ -26,11 +33,11 @@ allows-requires c κs = search needs
 counted-requires-2 : tie.Need-counted-requires-2
 counted-requires-2 c κs = search needs
 
-cast-t21 : tie.Need-cast-t21
-cast-t21 c = search needs
+cast-t22 : tie.Need-cast-t22
+cast-t22 c = search needs
 
-add-t22 : tie.Need-add-t22
-add-t22 c = search needs
+add-t23 : tie.Need-add-t23
+add-t23 c = search needs
 
 returns : tie.Need-returns
 returns c =
@@ -39,7 +46,7 @@ returns c =
     let at-named = at-look .before in
     let at-if = at-named .before in
     let at-counted = at-if .before in
-    turns-notice (at-counted .counted .ensures) (at-if .if1 .taken) (at-named .named .ensures) (at-look .look .ensures)
+    turns-notice (heard at-counted .kind-heard .ensures) (at-counted .counted .ensures) (at-if .if1 .taken) (at-named .named .ensures) (at-look .look .ensures)
     (at-counted-2 .before .before .enum-told .given .1) (at-counted-2 .counted2 .ensures)
     (at-counted-2 .before .allows .ensures) (c .before .if2 .taken)
 
@@ -49,7 +56,7 @@ returns-2 c =
     let at-named = at-look .before in
     let at-if = at-named .before in
     let at-counted = at-if .before in
-    turns-limit (at-counted .counted .ensures) (at-if .if1 .taken) (at-named .named .ensures) (at-look .look .ensures)
+    turns-limit (heard at-counted .kind-heard .ensures) (at-counted .counted .ensures) (at-if .if1 .taken) (at-named .named .ensures) (at-look .look .ensures)
     (c .before .before .before .enum-told .given .1) (c .before .counted2 .ensures) (c .before .before .allows .ensures) (c .if2 .left)
 
 enum-known-outcome : tie.Need-enum-known-outcome
@@ -64,22 +71,24 @@ returns-3 c =
     let at-named = at-look .before in
     let at-if = at-named .before in
     let at-counted = at-if .before in
-    turns-reply (at-counted .counted .ensures) (at-if .if1 .taken) (at-named .named .ensures) (at-look .look .ensures)
+    turns-reply (heard at-counted .kind-heard .ensures) (at-counted .counted .ensures) (at-if .if1 .taken) (at-named .named .ensures) (at-look .look .ensures)
     (c .before .before .outcome .given .1) (c .finish .ensures)
 
 returns-4 : tie.Need-returns-4
-returns-4 c = turns-idle ((c .before .before .counted .ensures)) ((c .before .if1 .left)) ((c .if3 .taken))
+returns-4 c = turns-idle (heard (c .before .before) .kind-heard .ensures) (c .before .before .counted .ensures) (c .if3 .taken)
 
 returns-5 : tie.Need-returns-5
-returns-5 c = turns-ended ((c .before .before .before .counted .ensures)) ((c .before .before .if1 .left)) ((c .before .if3 .left)) ((c .if4 .taken))
+returns-5 c = turns-ended (heard (c .before .before .before) .kind-heard .ensures) (c .before .before .before .counted .ensures) (c .if4 .taken)
 
 returns-6 : tie.Need-returns-6
-returns-6 c = turns-failed ((c .before .before .before .counted .ensures)) ((c .before .before .if1 .left)) ((c .before .if3 .left)) ((c .if4 .left))
+returns-6 c = turns-failed (heard (c .before .before .before) .kind-heard .ensures) (c .before .before .before .counted .ensures)
+    (c .before .before .if1 .left) (c .before .if3 .left) (c .if4 .left)
 
 pub turn-spec : {M : Type 1} → statement M
 turn-spec =
     tie.close
     (tie.spec
+    kind-heard-requires
     cast-time
     counted-requires
     named-requires
@@ -87,8 +96,8 @@ turn-spec =
     enum-told
     allows-requires
     counted-requires-2
-    cast-t21
-    add-t22
+    cast-t22
+    add-t23
     returns
     returns-2
     enum-known-outcome

@@ -7,7 +7,7 @@ limit-for-requires : tie.Need-limit-for-requires
 limit-for-requires c κs = search needs
 
 returns : tie.Need-returns
-returns c = rw (c .limit-for .ensures)
+returns c = rw (c .before .limit-for .ensures)
 
 pub limited-spec : {M : Type 1} → statement M
 limited-spec = tie.close (tie.spec limit-for-requires returns)

@@ -149,7 +149,7 @@ module _ {M : Type 1} (𝓤 : URA M) (H : Heap 𝓤) (A : Atoms 𝓤) (W : Given
   -- what is ensured of an answer and the request's last list, and of the part of the replies that is handed out
   abbrev Said : Answered → List ℕ → Type 0
   Said r zs = Called (ask .strict) (settingOf ask session) (callOf (ask .call) (address .now) (size .now) (payload .now))
-      (lentOf (request .now) (events .now) (replies .now)) r zs
+      (lentOf (ask .channel) (request .now) (events .now) (replies .now)) r zs
 
   abbrev Handed-out : Answered → RefT (List ℕ) → Type 0
   Handed-out r d = d .now ≡ handedOf r (replies .now)

@@ -1,10 +1,21 @@
 -- `header::header_in` meets its contract.
 use borrow.Author.Needs.{needs}
+use Rattle.exchange.specs.Meaning.{formOf}
+use Rattle.logs.proofs.Forms.{header-apart}
 use Rattle.logs.proofs.header.header_in.Statement.{statement}
 use Rattle.logs.proofs.header.header_in.Tie as tie
 
 u16-at-requires : tie.Need-u16-at-requires
 u16-at-requires c κs = search needs
+
+form-of-requires : tie.Need-form-of-requires
+form-of-requires c κs = search needs
+
+moved-by-requires : tie.Need-moved-by-requires
+moved-by-requires c κs = search needs
+
+part-requires : tie.Need-part-requires
+part-requires c κs = search needs
 
 byte-at-requires : tie.Need-byte-at-requires
 byte-at-requires c κs = search needs
@@ -24,8 +35,8 @@ byte-at-requires-4 c κs = search needs
 byte-at-requires-5 : tie.Need-byte-at-requires-5
 byte-at-requires-5 c κs = search needs
 
-byte-at-requires-6 : tie.Need-byte-at-requires-6
-byte-at-requires-6 c κs = search needs
+listens-in-requires : tie.Need-listens-in-requires
+listens-in-requires c κs = search needs
 
 u16-at-requires-3 : tie.Need-u16-at-requires-3
 u16-at-requires-3 c κs = search needs
@@ -75,8 +86,12 @@ returns c =
     let f₄ = f₅ .before in
     let f₃ = f₄ .before in
     let f₂ = f₃ .before in
-    let f₁ = f₂ .before in
-    λ i. record {
+    let cut = f₂ .before in
+    let further = cut .before in
+    let formed = further .before in
+    let f₁ = formed .before in
+    let l = f₁ .before .before .args .log .now in
+    header-apart (formOf (formed .form-of .result)) l (cut .part .result .now) (λ i. record {
       version = f₁ .u16-at .ensures i;
       call = f₂ .byte-at .ensures i;
       flags = f₃ .byte-at2 .ensures i;
@@ -84,7 +99,7 @@ returns c =
       sub = f₅ .byte-at3 .ensures i;
       addressLength = f₆ .byte-at4 .ensures i;
       sizeLength = f₇ .byte-at5 .ensures i;
-      unused = f₈ .byte-at6 .ensures i;
+      listens = f₈ .listens-in .ensures i;
       arguments = f₉ .u16-at3 .ensures i;
       argumentsAt = f₁₀ .u16-at4 .ensures i;
       events = f₁₁ .u16-at5 .ensures i;
@@ -95,20 +110,25 @@ returns c =
       p2 = f₁₆ .u32-at .ensures i;
       star = f₁₇ .u32-at2 .ensures i;
       overall = c .u32-at3 .ensures i;
-    }
+    })
+    (rw (further .moved-by .ensures) at (cut .part .ensures))
+    (rw (f₁ .u16-at .ensures) at (formed .form-of .ensures))
 
 pub header-in-spec : {M : Type 1} → statement M
 header-in-spec =
     tie.close
     (tie.spec
     u16-at-requires
+    form-of-requires
+    moved-by-requires
+    part-requires
     byte-at-requires
     byte-at-requires-2
     u16-at-requires-2
     byte-at-requires-3
     byte-at-requires-4
     byte-at-requires-5
-    byte-at-requires-6
+    listens-in-requires
     u16-at-requires-3
     u16-at-requires-4
     u16-at-requires-5
