@@ -1,9 +1,9 @@
--- Of a whole call: at most one answer fits its contract, and demands 1 and 3, the bound of a limit and that foreign replies change nothing are carried to the code; and of two calls
--- in a row.
+-- Of a whole call: at most one answer fits its contract, and demands 1 and 3, the bound of a limit, that foreign replies change nothing and that lenient only adds answers are
+-- carried to the code; and of two calls in a row.
 use Prim.Native.Nat.{ℕ, _+_, _*_, _≤_}
-use mathlib.Core.Bool.{Bool, true}
-use mathlib.Core.Path.{_≡_, refl, sym, _∙_, ap, subst⁻¹}
-use mathlib.Core.Logic.{_↔_}
+use mathlib.Core.Bool.{Bool, true, false}
+use mathlib.Core.Path.{_≡_, refl, sym, _∙_, ap, subst, subst⁻¹}
+use mathlib.Core.Logic.{_↔_, _≢_, _⊎_, inl, inr}
 use mathlib.Core.List.{List}
 use mathlib.Core.Option.{none, some}
 use Rattle.rules.specs.Answers as rules
@@ -12,11 +12,13 @@ use Rattle.rules.specs.Client.{Result, entriesIn, eventsIn, call}
 use Rattle.rules.specs.Conversations.{Conversation}
 use Rattle.rules.specs.Demand1.{Untouched}
 use Rattle.rules.specs.Demand3 as demand
+use Rattle.rules.specs.Lenient.{Deviates}
 use Rattle.rules.specs.Foreign.{raised, passedOver, withAnswer, dropped}
 use Rattle.rules.specs.Settings.{Timing, Setting, Lent}
 use Rattle.rules.proofs.Demand1.{demand1}
 use Rattle.rules.proofs.Demand3.{demand3}
 use Rattle.rules.proofs.Foreign.{foreign-replies}
+use Rattle.rules.proofs.Lenient.{lenient}
 use Rattle.rules.proofs.Limited.{limited-holds}
 use Rattle.exchange.specs.Meaning.{answerOf}
 use Rattle.exchange.specs.Places.{Answers}
@@ -97,6 +99,29 @@ rope-inspection {strict} {w} {c} {l} {r} {r′} {b} {b′} k k′ ok =
     let sent = ap (λ (x : Result). x .sent) whole in
     let timing = timing-unique (r .timing) (r′ .timing) (ap (λ (x : Result). x .timing) whole) in
     (λ i. record { answer = answer i; number = number i; sent = sent i; timing = timing i }, ap (λ (x : Result). x .buffer) whole)
+
+-- Request Twelve, "lenient only adds answers", of one call made twice, strict and lenient: where strict answers, lenient's answer and request are the same; where they differ in
+-- anything, strict reported a deviation; strict never says `length`, and lenient never a deviation.
+pub record OnlyAdds (replies : List ℕ) (r r′ : Answered) (b b′ : List ℕ) : Type 0 where
+  pub answers-alike : demand.Answers (answerOf replies (r .answer) .outcome) → (r ≡ r′) × (b ≡ b′)
+  pub differs-by-deviation : Deviates (answerOf replies (r .answer) .outcome) ⊎ ((r ≡ r′) × (b ≡ b′))
+  pub strict-no-length : answerOf replies (r .answer) .outcome ≢ rules.fault rules.badLength
+  pub lenient-no-deviation : ¬ Deviates (answerOf replies (r′ .answer) .outcome)
+
+pub only-adds : {w : Setting} {c : Call} {l : Lent} {r r′ : Answered} {b b′ : List ℕ} → Called true w c l r b → Called false w c l r′ b′ → OnlyAdds (l .replies) r r′ b b′
+only-adds {w} {c} {l} {r} {r′} {b} {b′} k k′ =
+    let adds = lenient w c l in
+    let strictly = ap (λ (y : Result). y .answer .outcome) (k .means) in
+    let leniently = ap (λ (y : Result). y .answer .outcome) (k′ .means) in
+    let alike : call false w c l ≡ call true w c l → (r ≡ r′) × (b ≡ b′) =
+    λ e. unique {strict = true} k (record { means = k′ .means ∙ e; outcome = k′ .outcome; reply = k′ .reply })
+    in
+    record {
+      answers-alike = λ a. alike (adds .answers-alike (subst demand.Answers strictly a));
+      differs-by-deviation = elim (adds .differs-by-deviation) [ inl d ↦ inl (subst⁻¹ Deviates strictly d) | inr e ↦ inr (alike e) ];
+      strict-no-length = λ e. adds .strict-no-length (sym strictly ∙ e);
+      lenient-no-deviation = λ d. adds .lenient-no-deviation (subst Deviates leniently d);
+    }
 
 -- Two calls in a row, the second in the session that the first leaves: it runs with the timing that the first set.
 pub in-a-row : {strict strict′ : Bool} {w : Setting} {c c′ : Call} {l l′ : Lent} {r r′ : Answered} {buffer buffer′ : List ℕ} (ask : Ask) → Called strict w c l r buffer

@@ -1,9 +1,9 @@
--- Demands 1 and 3 of document 01, the bound of request Nine and the rope-inspection theorem of request Seven, carried to the fifteen numbers of the door: of any numbers and request that fit its contract with result 0.
+-- Demands 1 and 3 of document 01, the bound of request Nine, the rope-inspection theorem of request Seven and what request Twelve says of lenient, carried to the fifteen numbers of the door: of any numbers and request that fit its contract with result 0.
 use Prim.Native.Nat.{ℕ, _+_, _*_, _≤_}
 use native.Mathlib.Omega.{arith}
 use mathlib.Core.Bool.{Bool, true, false, cond, false≢true}
 use mathlib.Core.Path.{_≡_, refl, sym, _∙_, ap, subst, subst⁻¹}
-use mathlib.Core.Logic.{_↔_}
+use mathlib.Core.Logic.{_↔_, _⊎_, inl, inr}
 use mathlib.Core.List.{List, [], _∷_}
 use mathlib.Core.Option.{Option, none, some}
 use lib.Dec.{eqb, leb}
@@ -15,12 +15,14 @@ use Rattle.rules.specs.Conversations.{Conversation}
 use Rattle.rules.specs.Demand1.{Numbered, Untouched}
 use Rattle.rules.specs.Demand3.{Named, Refused, Answers}
 use Rattle.rules.specs.Foreign.{dropped}
+use Rattle.rules.specs.Lenient.{Deviates}
 use Rattle.rules.specs.Logs.{Header, flag, settingOf}
 use Rattle.rules.specs.Limited.{inLimit}
 use Rattle.rules.specs.Settings.{Timing, Setting, Lent}
 use Rattle.rules.proofs.Demand1.{demand1}
 use Rattle.rules.proofs.Demand3.{demand3}
 use Rattle.rules.proofs.Foreign.{foreign-replies}
+use Rattle.rules.proofs.Lenient.{lenient}
 use Rattle.rules.proofs.Limited.{limited-holds}
 use Rattle.host.specs.Numbers.{valuesOf, answerNumbers, numbersOf}
 use Rattle.log_call.specs.Asking.{chosen}
@@ -166,3 +168,37 @@ rope-inspection h k a s d l p p′ ok =
       ap (drop 6) numbers ∙ sym (ap (drop 6) numbers′),
       request-is h k a s d l p ∙ ap (λ (y : Result). y .buffer) drops ∙ sym (request-is h k a s d (dropped l) p′),
     )
+
+-- A deviation has the number 6.
+deviates : (o : Outcome) → Deviates o → valuesOf o .outcome ≡ 6
+deviates (positive p) h = absurd h
+deviates suppressed h = absurd h
+deviates (negative n) h = absurd h
+deviates timeout h = absurd h
+deviates pendingLimit h = absurd h
+deviates disconnected h = absurd h
+deviates (transport n) h = absurd h
+deviates (fault (deviation n)) h = refl
+deviates (fault (deviation8 a b)) h = refl
+deviates (fault badLength) h = absurd h
+deviates (fault overflow) h = absurd h
+deviates (refused n) h = absurd h
+
+-- Lenient only adds answers: the same call with flag 1 and without. Strict reported a deviation, or the fifteen numbers and the request are the same.
+pub only-adds : {b b′ : Bool} (h h′ : Header) (k : ℕ) (a s : Field) (d : List ℕ) (l : Lent) {told after told′ after′ told₀ told₀′ : List ℕ}
+    → eqb (flag 1 h) 1 ≡ true → eqb (flag 1 h′) 1 ≡ false → settingOf h ≡ settingOf h′ → chosen h a s d ≡ chosen h′ a s d
+    → Served b (asked h k a s d l) (l .buffer) told₀ 0 after told → Served b′ (asked h′ k a s d l) (l .buffer) told₀′ 0 after′ told′
+    → (outcomeIn told ≡ 6) ⊎ ((told ≡ told′) × (after ≡ after′))
+only-adds h h′ k a s d l strict mild settings calls p p′ =
+    let w = inLimit (limitIn k) (settingOf h) in
+    let c = chosen h a s d in
+    let x : asked h k a s d l ≡ call true w c l = ap (λ (m : Bool). call m w c l) strict in
+    let x′ : asked h′ k a s d l ≡ call false w c l = λ i. call (mild i) (inLimit (limitIn k) (sym settings i)) (sym calls i) l in
+    let alike : call false w c l ≡ call true w c l → asked h k a s d l ≡ asked h′ k a s d l = λ e. x ∙ sym e ∙ sym x′ in
+    elim (lenient w c l .differs-by-deviation) [
+      | inl z ↦ inl (outcome-is h k a s d l p ∙ deviates (asked h k a s d l .answer .outcome) (subst⁻¹ (λ (y : Result). Deviates (y .answer .outcome)) x z))
+      | inr e ↦ inr (
+        numbers-are h k a s d l p ∙ ap numbersOf (alike e) ∙ sym (numbers-are h′ k a s d l p′),
+        request-is h k a s d l p ∙ ap (λ (y : Result). y .buffer) (alike e) ∙ sym (request-is h′ k a s d l p′),
+      )
+    ]

@@ -1,7 +1,7 @@
 -- The counts, proved: by induction over the exchange, with what was read before in front.
-use Prim.Native.Nat.{ℕ, _+_, _≤_, max}
+use Prim.Native.Nat.{ℕ, _+_, _≤_}
 use native.Mathlib.Omega.{arith}
-use mathlib.Core.Bool.{Bool, true, false, cond, _&&_, true≢false}
+use mathlib.Core.Bool.{Bool, true, false, cond, true≢false}
 use mathlib.Core.Path.{_≡_, refl, sym, _∙_, ap, ap₂, subst, subst⁻¹}
 use mathlib.Core.Logic.{_⊎_, inl, inr}
 use mathlib.Core.List.{List, [], _∷_, _++_, map}
@@ -15,9 +15,9 @@ use Rattle.rules.specs.InOrder.{Check, judge}
 use Rattle.rules.specs.Counts.{isPending, isNotice, passes, noticesIn, noted, After, Rising, UpToSettling, Counts}
 use Rattle.rules.specs.Conversations.{Every}
 use Rattle.rules.specs.Events.{Event, reply, idle, ended, failed, timeOf, upTo}
-use Rattle.rules.specs.Exchange.{Asked, Step, pending, settles, wrong, negativeChecks, coded, positiveChecks, look, Settled, settled, State, start, waits, allows, notes, hears, turn, silence, settle, exchange}
+use Rattle.rules.specs.Exchange.{Asked, Step, pending, settles, wrong, negativeChecks, coded, positiveChecks, look, Settled, settled, State, start, allows, notes, hears, turn, silence, settle, exchange}
 use Rattle.rules.proofs.Judging.{judge-ind}
-use Rattle.rules.proofs.Turns.{Through, settle-ind}
+use Rattle.rules.proofs.Turns.{Through, settle-ind, finish-late}
 
 judge-settles : (cs : List (Check Fault)) (o : Outcome) → isPending (judge wrong cs (settles o)) ≡ false
 judge-settles cs o = judge-ind (λ s. isPending s ≡ false) wrong cs (settles o) (λ f. refl) (λ p. refl)
@@ -111,10 +111,6 @@ module _ (strict : Bool) (a : Asked) where
       notices = r .notices ∙ n (noticesIn strict a (r .read));
     }
 
-  at-least : (b : Bool) (t p : ℕ) → t ≤ cond b (max t p) t
-  at-least true t p = omega arith
-  at-least false t p = omega arith
-
   through : (s : State) (e : Event) (es : List Event) → timeOf e ≤ s .deadline → Through Reading s e es (turn strict a s e)
   through s (reply t p) es k = by-look (look strict a (s .hush) p) (hush-free strict a (s .hush) p)
     where
@@ -124,7 +120,7 @@ module _ (strict : Bool) (a : Asked) where
           heard : (b : Bool) → allows (a .limit) (length (s .notices)) ≡ b → Through Reading s (reply t p) es (notes a s t p b)
           heard true e = λ x. behind-one s (reply t p) es _ x (rw (← n, e) refl) (omega arith) refl (λ l. rw (← n) refl) (rw (← n) refl)
           heard false e = settled-by s (reply t p) es _ t _ p (rw (← n, e) refl) (rw (← n) refl) (omega arith)
-      by-look (settles o) n = settled-by s (reply t p) es o _ _ p (rw (← n) refl) (rw (← n) refl) (at-least (waits o && suppresses (a .sub)) t (a .timing .p2))
+      by-look (settles o) n = settled-by s (reply t p) es o _ _ p (rw (← n) refl) (rw (← n) refl) (finish-late a o t)
   through s (idle t) es k = λ x. behind-one s (idle t) es _ x refl k refl (λ l. refl) refl
   through s (ended t) es k = settled-by s (ended t) es _ t _ _ refl refl (omega arith)
   through s (failed t n) es k = settled-by s (failed t n) es _ t _ _ refl refl (omega arith)

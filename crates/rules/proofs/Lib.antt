@@ -31,3 +31,5 @@ pub mod Dropping
 pub mod Places
 pub mod Laying
 pub mod Foreign
+pub mod Milder
+pub mod Lenient

@@ -1,6 +1,6 @@
 -- The one induction over an exchange: what holds of silence, and passes through a turn, holds of what the exchange settles in.
-use Prim.Native.Nat.{ℕ, _-_, _≤_}
-use mathlib.Core.Bool.{Bool, true, false, cond}
+use Prim.Native.Nat.{ℕ, _-_, _≤_, max}
+use mathlib.Core.Bool.{Bool, true, false, cond, _&&_}
 use mathlib.Core.Path.{_≡_, refl, sym, _∙_, ap, subst⁻¹}
 use mathlib.Core.List.{List, [], _∷_, _++_}
 use mathlib.Core.Option.{Option, none, some}
@@ -9,9 +9,10 @@ use lib.Dec.{leb, ltb}
 use lib.ListN.{length}
 use borrow.Author.Tests.{leb-true, leb-false, ltb-true, ltb-false, le-leb, lt-leb, lt-ltb, le-ltb}
 use Rattle.rules.specs.Answers.{Part, nowhere, Outcome, timeout, answer}
+use Rattle.rules.specs.Calls.{suppresses}
 use Rattle.rules.specs.Counts.{After}
 use Rattle.rules.specs.Events.{Event, reply, idle, ended, failed, timeOf, upTo}
-use Rattle.rules.specs.Exchange.{Asked, Step, pending, settles, look, Settled, settled, State, state, Turn, on, ends, allows, notes, hears, turn, silence, settle, counted, under}
+use Rattle.rules.specs.Exchange.{Asked, Step, pending, settles, look, Settled, settled, State, waits, finish, state, Turn, on, ends, allows, notes, hears, turn, silence, settle, counted, under}
 use Rattle.rules.specs.Limited.{less, spent}
 
 -- A predicate over the state, the events from there on and what they settle in passes through a turn.
@@ -47,6 +48,14 @@ module _ (strict : Bool) (a : Asked) where
         go : (b : Bool) → leb (timeOf e) (s .deadline) ≡ b → ((s′ : State) → P s′ es (settle strict a es s′)) → P s (e ∷ es) (settle strict a (e ∷ es) s)
         go true b more = let k = leb-true (timeOf e) (s .deadline) b in took (turn strict a s e) refl k (turns s e es k) more
         go false b more = let k = leb-false (timeOf e) (s .deadline) b in subst⁻¹ (P s (e ∷ es)) (settle-late s (e ∷ es) k) (silent s (e ∷ es) k)
+
+-- An outcome never comes before the event that it is of.
+pub finish-late : (a : Asked) (o : Outcome) (t : ℕ) → t ≤ finish a o t
+finish-late a o t = go (waits o && suppresses (a .sub))
+  where
+    go : (b : Bool) → t ≤ cond b (max t (a .timing .p2)) t
+    go true = omega arith
+    go false = omega arith
 
 -- What holds of timeout and of what the events settle in holds under T too.
 pub under-ind : (Q : Outcome → Part → Type 0) → Q timeout nowhere → (s : Settled) → Q (s .outcome) (s .reply) → (overall : Option ℕ) → let x = under overall s in Q (x .outcome) (x .reply)

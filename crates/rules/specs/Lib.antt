@@ -37,3 +37,4 @@ pub mod FaultRows
 pub mod Writing
 pub mod Foreign
 pub mod Addresses
+pub mod Lenient
