@@ -2,3 +2,4 @@
 pub mod Telling
 pub mod Serving
 pub mod Promises
+pub mod Keeping
