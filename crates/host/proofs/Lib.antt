@@ -3,3 +3,4 @@ pub mod Telling
 pub mod Serving
 pub mod Promises
 pub mod Keeping
+pub mod Stepwise

@@ -9,6 +9,8 @@ use lib.ListN.{length, getD, take, drop}
 use Rattle.rules.specs.Calls.{Call, alfid}
 use Rattle.rules.specs.Events.{Entry}
 use Rattle.rules.specs.Logs.{Header, usesOf, fieldsOk}
+use Rattle.stepwise.specs.Handed as wise
+use Rattle.stepwise.specs.Handed.{lent, now}
 use Rattle.exchange.specs.declared.types.State.{State}
 use Rattle.exchange.specs.declared.types.Timing.{Timing}
 use Rattle.calls.specs.declared.Ask.{Ask}
@@ -166,3 +168,9 @@ BegunInBytes h k l request told r request′ told′ =
 abbrev pub BegunInNumbers : Header → ℕ → ℕ → ℕ → ℕ → ℕ → Bool → List ℕ → List ℕ → List ℕ → ℕ → List ℕ → List ℕ → Type 0
 BegunInNumbers h k v u w w′ wide d request told r request′ told′ =
     BegunAs (hasAlfid (h .call) && asksOne h k (length d)) h k (chosen h (alfid v w wide) (alfid u w′ wide) d) (askingOf h k w w′) request told r request′ told′
+
+-- A run through the door: what it is handed, step by step, the request that was sent lent with each event.
+abbrev pub Steps : List ℕ → List wise.Handed → List ℕ → List ℕ → Type 0
+Steps q [] l l′ = l ≡ l′
+Steps q (lent replies x ∷ hs) l l′ = (r : ℕ) × (m : List ℕ) × Handed l q x replies r m × Steps q hs m l′
+Steps q (now t ∷ hs) l l′ = (r : ℕ) × (m : List ℕ) × Ticked l t r m × Steps q hs m l′

@@ -167,7 +167,7 @@ module _ (session : Timing) (ask : Ask) (a s d before : List ℕ) where
       λ i. record { sid = sid i; sub = sub i; timing = w .timing; limit = w .limit }
 
   -- Refused by its arguments or its size, the engine has settled as the call answers, whatever is lent.
-  refused-alike : {e after : _} → (p .refusal ≡ 0 → ⊥) → Begins session ask c before e after → (e .phase ≡ Settled (refusedOf session (p .refusal))) × (after ≡ before)
+  pub refused-alike : {e after : _} → (p .refusal ≡ 0 → ⊥) → Begins session ask c before e after → (e .phase ≡ Settled (refusedOf session (p .refusal))) × (after ≡ before)
   refused-alike {e} {after} h k =
       let same = unique {strict = ask .strict} (k .called) (turned-away (given [] []) refl h) in
       (ap (λ (q : Engine). q .phase) (k .engine) ∙ ap (λ (q : Answered). begunBy session ask q .phase) (same .0), same .1)
@@ -187,7 +187,7 @@ module _ (session : Timing) (ask : Ask) (a s d before : List ℕ) where
     sent : k .unheard .sent ≡ length request
     sent = ap (λ (q : Result). q .sent) (k .called .means ∙ silent-is)
 
-    written : after′ ≡ over request before
+    pub written : after′ ≡ over request before
     written = ap (λ (q : Result). q .buffer) (k .called .means ∙ silent-is)
 
     unrefused : isRefused (outcomeOf [] (k .unheard .answer .outcome)) ≡ false
