@@ -1,5 +1,6 @@
 /* stack LOGS: how much stack one whole call of the proved library takes, for each log of a file (each after its length as u32,
- * big-endian) whose numbers ask a call, and for the alfid forms of calls 5, 6, 11 and 12.
+ * big-endian) whose numbers ask a call, and for the alfid forms of calls 5, 6, 11 and 12; and how much it takes to begin each such call
+ * and to hand over its events and a tick, one at a time.
  *
  * A call runs on a stack of its own that was painted before; what it left unpainted is counted, once for each of two paints. What an
  * empty function takes in its place is subtracted. To be linked statically: a dynamic linker looks up the library's functions of C in the
@@ -25,6 +26,9 @@ static bool addressed;
 static uint8_t request[BINTROCHIS_LONGEST_REQUEST], result;
 static uint64_t answer[BINTROCHIS_NUMBERS];
 
+/* The state that a step begins from, and what becomes of it. */
+static uint64_t before[BINTROCHIS_STATE], state[BINTROCHIS_STATE];
+
 static size_t u16_at(const uint8_t *p) { return (size_t)p[0] << 8 | p[1]; }
 static uint32_t u32_at(const uint8_t *p) { return (uint32_t)u16_at(p) << 16 | (uint32_t)u16_at(p + 2); }
 
@@ -38,10 +42,30 @@ static void in_bytes(void) {
                              request, sizeof request, events, event_bytes, replies, reply_count, answer);
 }
 
+static void begins(void) {
+    const uint8_t *times = header + 24 + addressed;
+    result = bintrochis_begin(header[2], header[3], (uint16_t)u16_at(header + 4), header[6], header[7], header[8], u32_at(times),
+                              u32_at(times + 4), u32_at(times + 8), BINTROCHIS_NO_LIMIT, addressed ? (uint16_t)u16_at(header + 9) : 0, arguments,
+                              argument_count, request, sizeof request, state);
+}
+
+/* Of the events the first. */
+static void hands_over(void) {
+    result = bintrochis_event(state, request, sizeof request, u32_at(events), (uint16_t)u16_at(events + 4), (uint16_t)u16_at(events + 6),
+                              (uint16_t)u16_at(events + 8), addressed ? (uint16_t)u16_at(events + 10) : 0, replies, reply_count);
+}
+
+static void ticks(void) { result = bintrochis_tick(state, UINT64_MAX); }
+
 static void in_numbers(void) {
     result = bintrochis_call_alfid(header[2], header[3], header[2] > 10 ? 0x0102 : 0, 0x0102030405060708, 0x1112131415161718, 8, 8, false, 50,
                                    5000, 0, BINTROCHIS_NO_LIMIT, false, 0, arguments, argument_count, request, sizeof request, events,
                                    event_bytes, replies, reply_count, answer);
+}
+
+static void begins_in_numbers(void) {
+    result = bintrochis_begin_alfid(header[2], header[3], header[2] > 10 ? 0x0102 : 0, 0x0102030405060708, 0x1112131415161718, 8, 8, false, 50,
+                                    5000, 0, BINTROCHIS_NO_LIMIT, 0, arguments, argument_count, request, sizeof request, state);
 }
 
 static void enter(void) { body(); }
@@ -53,6 +77,7 @@ static size_t taken_with(unsigned char paint) {
     there.uc_stack.ss_size = sizeof stack;
     there.uc_link = &here;
     makecontext(&there, enter, 0);
+    memcpy(state, before, sizeof state);
     swapcontext(&here, &there);
     size_t left = 0;
     while (left < sizeof stack && stack[left] == paint) {
@@ -67,14 +92,50 @@ static size_t taken(void (*of)(void)) {
     return one > other ? one : other;
 }
 
+/* What was measured of a kind of call. */
+enum { MOST = 1 << 18 };
+struct taken {
+    const char *name;
+    size_t count;
+    size_t sizes[MOST];
+};
+static struct taken calls = {.name = "calls with bytes"}, alfid_calls = {.name = "alfid forms"}, begun = {.name = "begun with bytes"},
+                    alfid_begun = {.name = "begun in alfid forms"}, handed = {.name = "events handed over"}, ticked = {.name = "ticks"};
+
+static size_t empty; /* what an empty function takes */
+
+/* Runs it, and counts it unless it is misuse; a step goes on from the state that the one before left. */
+static void measure(struct taken *kind, void (*of)(void)) {
+    const size_t bytes = taken(of);
+    memcpy(before, state, sizeof before);
+    if (result != BINTROCHIS_MISUSE && kind->count < MOST) {
+        kind->sizes[kind->count++] = bytes - empty;
+    }
+}
+
+/* Begins the call and hands over its events one at a time, and then a tick. */
+static void measure_steps(struct taken *kind, void (*begin)(void)) {
+    const size_t step = addressed ? BINTROCHIS_ADDRESSED_EVENT : BINTROCHIS_EVENT, all = event_bytes;
+    measure(kind, begin);
+    for (; event_bytes >= step && before[BINTROCHIS_OUTCOME] == BINTROCHIS_WAITING; event_bytes -= step, events += step) {
+        measure(&handed, hands_over);
+    }
+    events -= all - event_bytes;
+    event_bytes = all;
+    measure(&ticked, ticks);
+}
+
 static int by_size(const void *a, const void *b) {
     const size_t x = *(const size_t *)a, y = *(const size_t *)b;
     return (x > y) - (x < y);
 }
 
-static void say(const char *name, size_t *sizes, size_t count) {
-    qsort(sizes, count, sizeof *sizes, by_size);
-    printf("%s: %zu calls; largest %zu bytes, middle %zu, smallest %zu\n", name, count, sizes[count - 1], sizes[count / 2], sizes[0]);
+static void say(struct taken *kind) {
+    if (kind->count > 0) {
+        qsort(kind->sizes, kind->count, sizeof *kind->sizes, by_size);
+        printf("%s: %zu; largest %zu bytes, middle %zu, smallest %zu\n", kind->name, kind->count, kind->sizes[kind->count - 1],
+               kind->sizes[kind->count / 2], kind->sizes[0]);
+    }
 }
 
 int main(int count, char **words) {
@@ -87,12 +148,10 @@ int main(int count, char **words) {
         fprintf(stderr, "%s cannot be read.\n", words[1]);
         return 2;
     }
-    enum { MOST = 1 << 16, LONGEST = 1 << 17 };
-    static size_t sizes[MOST];
+    enum { LONGEST = 1 << 17 };
     static uint8_t length[4], log[LONGEST];
-    const size_t empty = taken(nothing);
-    size_t calls = 0;
-    while (calls < MOST && fread(length, 1, 4, file) == 4) {
+    empty = taken(nothing);
+    while (fread(length, 1, 4, file) == 4) {
         const size_t size = u32_at(length);
         if (size > LONGEST || fread(log, 1, size, file) != size) {
             fprintf(stderr, "%s ends within a log.\n", words[1]);
@@ -113,22 +172,21 @@ int main(int count, char **words) {
         arguments = log + fixed;
         events = arguments + argument_count;
         replies = events + event_bytes;
-        const size_t bytes = taken(in_bytes);
+        measure(&calls, in_bytes);
         if (result == BINTROCHIS_DONE) {
-            sizes[calls++] = bytes - empty;
+            measure_steps(&begun, begins);
         }
     }
     fclose(file);
-    if (calls == 0) {
+    if (calls.count == 0) {
         fprintf(stderr, "No log of %s asks a call.\n", words[1]);
         return 2;
     }
-    say("calls with bytes", sizes, calls);
 
     static const uint8_t four[] = {5, 6, 11, 12};
     static uint8_t data[4000], heard[BINTROCHIS_EVENT] = {0, 0, 0, 10, 0, 0, 0, 0, 0, 4}, said[] = {0x7f, 0x22, 0x33, 0};
     static uint8_t fields[HEADER];
-    calls = 0;
+    addressed = false;
     for (size_t i = 0; i < sizeof four; i++) {
         for (uint8_t strict = 0; strict < 2; strict++) {
             fields[2] = four[i];
@@ -140,12 +198,15 @@ int main(int count, char **words) {
             event_bytes = sizeof heard;
             replies = said;
             reply_count = sizeof said;
-            const size_t bytes = taken(in_numbers);
-            if (result == BINTROCHIS_DONE) {
-                sizes[calls++] = bytes - empty;
-            }
+            measure(&alfid_calls, in_numbers);
+            measure_steps(&alfid_begun, begins_in_numbers);
         }
     }
-    say("alfid forms", sizes, calls);
+    say(&calls);
+    say(&alfid_calls);
+    say(&begun);
+    say(&alfid_begun);
+    say(&handed);
+    say(&ticked);
     return 0;
 }

@@ -1,15 +1,19 @@
 //! Bintrochis for Rust: a UDS client (ISO 14229-1) in which every call is proved.
 //!
 //! A call is judged from what was heard. [`Asked::answer`] writes the request into a lent buffer and judges a list of events, each
-//! with its time since sending: with no events it gives the request to send, and with what came back the answer. Nothing here
+//! with its time since sending: with no events it gives the request to send, and with what came back the answer. [`Asked::begin`]
+//! is for a task that cannot wait for a list: its [`Engine`] is handed one event or the time in each cycle. Nothing here
 //! sends or waits. This crate turns numbers into enums and places into slices; the proved library does the rest.
 #![deny(unsafe_code)]
 
 #[allow(unsafe_code)]
 mod door;
+mod engine;
 mod names;
 
 use std::fmt;
+
+pub use engine::{Engine, Event, StepRefusal};
 
 use door::{number, Fields, Lent, Numbers};
 
@@ -217,26 +221,30 @@ impl Events {
         Events::default()
     }
 
-    fn push(&mut self, time: u32, kind: u16, offset: u16, length: u16) -> &mut Events {
-        extend(&mut self.0, time, &[kind, offset, length]);
+    fn push(&mut self, event: Event) -> &mut Events {
+        extend(
+            &mut self.0,
+            event.time,
+            &[event.kind, event.offset, event.length],
+        );
         self
     }
 
     /// A reply: these bytes of the reply bytes.
     pub fn reply(&mut self, time: u32, offset: u16, length: u16) -> &mut Events {
-        self.push(time, 0, offset, length)
+        self.push(Event::reply(time, offset, length, 0))
     }
 
     pub fn idle(&mut self, time: u32) -> &mut Events {
-        self.push(time, 1, 0, 0)
+        self.push(Event::idle(time))
     }
 
     pub fn end(&mut self, time: u32) -> &mut Events {
-        self.push(time, 2, 0, 0)
+        self.push(Event::end(time))
     }
 
     pub fn error(&mut self, time: u32, number: u16) -> &mut Events {
-        self.push(time, 3, 0, number)
+        self.push(Event::error(time, number))
     }
 
     pub fn as_bytes(&self) -> &[u8] {
@@ -254,12 +262,14 @@ impl AddressedEvents {
         AddressedEvents::default()
     }
 
-    fn push(
-        &mut self,
-        time: u32,
-        [kind, offset, length]: [u16; 3],
-        source: u16,
-    ) -> &mut AddressedEvents {
+    fn push(&mut self, event: Event) -> &mut AddressedEvents {
+        let Event {
+            time,
+            kind,
+            offset,
+            length,
+            source,
+        } = event;
         extend(&mut self.0, time, &[kind, offset, length, source]);
         self
     }
@@ -272,19 +282,19 @@ impl AddressedEvents {
         length: u16,
         source: u16,
     ) -> &mut AddressedEvents {
-        self.push(time, [0, offset, length], source)
+        self.push(Event::reply(time, offset, length, source))
     }
 
     pub fn idle(&mut self, time: u32) -> &mut AddressedEvents {
-        self.push(time, [1, 0, 0], 0)
+        self.push(Event::idle(time))
     }
 
     pub fn end(&mut self, time: u32) -> &mut AddressedEvents {
-        self.push(time, [2, 0, 0], 0)
+        self.push(Event::end(time))
     }
 
     pub fn error(&mut self, time: u32, number: u16) -> &mut AddressedEvents {
-        self.push(time, [3, 0, number], 0)
+        self.push(Event::error(time, number))
     }
 
     pub fn as_bytes(&self) -> &[u8] {
@@ -441,24 +451,33 @@ impl Asked {
             &mut numbers,
         );
         assert_eq!(result, door::DONE, "the fields of {self:?} ask no call");
-        let n = |at: usize| numbers[at] as usize;
         *session = Session {
             p2: numbers[number::P2] as u32,
             p2_star: numbers[number::P2_STAR] as u32,
         };
-        Answer {
-            outcome: outcome(
-                &numbers,
-                &replies[n(number::DATA_AT)..][..n(number::DATA_LENGTH)],
-            ),
-            time: numbers[number::TIME],
-            events: n(number::EVENTS),
-            notices: n(number::NOTICES),
-            reply: &replies[n(number::REPLY_AT)..][..n(number::REPLY_LENGTH)],
-            block_length: numbers[number::BLOCK_LENGTH],
-            request: &request[..n(number::REQUEST_LENGTH)],
-        }
+        let request = &request[..numbers[number::REQUEST_LENGTH] as usize];
+        answer_of(&numbers, request, replies)
+            .expect("the library is proved to name places in the reply bytes alone")
     }
+}
+
+/// The answer that numbers say, with the bytes that were sent; none where the reply bytes end before its places.
+fn answer_of<'q, 'r>(
+    numbers: &Numbers,
+    request: &'q [u8],
+    replies: &'r [u8],
+) -> Option<Answer<'q, 'r>> {
+    let n = |at: usize| numbers[at] as usize;
+    let part = |at: usize, length: usize| replies.get(n(at)..)?.get(..n(length));
+    Some(Answer {
+        outcome: outcome(numbers, part(number::DATA_AT, number::DATA_LENGTH)?),
+        time: numbers[number::TIME],
+        events: n(number::EVENTS),
+        notices: n(number::NOTICES),
+        reply: part(number::REPLY_AT, number::REPLY_LENGTH)?,
+        block_length: numbers[number::BLOCK_LENGTH],
+        request,
+    })
 }
 
 fn outcome<'r>(numbers: &Numbers, data: &'r [u8]) -> Outcome<'r> {

@@ -46,7 +46,7 @@ use Rattle.calls.specs.declared.Ask.{Ask}
 use Rattle.calls.specs.declared.Answered.{Answered}
 
 -- Whether an outcome is a refusal, as a test and as a type.
-refused-test : (o : Outcome) → isRefused o ≡ true → Refused o
+pub refused-test : (o : Outcome) → isRefused o ≡ true → Refused o
 refused-test (positive p) e = absurd (false≢true e)
 refused-test suppressed e = absurd (false≢true e)
 refused-test (negative n) e = absurd (false≢true e)
@@ -58,7 +58,7 @@ refused-test (refused n) e = tt
 refused-test pendingLimit e = absurd (false≢true e)
 
 -- It is one wherever its data stands.
-refused-anywhere : (l : List ℕ) (o : outcome.Outcome) → isRefused (outcomeOf [] o) ≡ isRefused (outcomeOf l o)
+pub refused-anywhere : (l : List ℕ) (o : outcome.Outcome) → isRefused (outcomeOf [] o) ≡ isRefused (outcomeOf l o)
 refused-anywhere l (variant.PositiveResponse p) = refl
 refused-anywhere l variant.Suppressed = refl
 refused-anywhere l (variant.NegativeResponse n) = refl

@@ -81,7 +81,7 @@ fn rechecked(ask: Ask, address: &[u8], size: &[u8], replies: &[u8], heard: Answe
 }
 
 // What was heard, checked; the number and the session's timing that come of it.
-fn concluded(
+pub fn concluded(
     session: Timing,
     ask: Ask,
     sent: usize,
@@ -113,7 +113,8 @@ fn concluded(
     }
 }
 
-fn is_refused(outcome: Outcome) -> bool
+// "A refused call returns one number"
+pub fn is_refused(outcome: Outcome) -> bool
     ensures { λ r. ⌜ r ≡ isRefused (outcomeOf [] outcome) ⌝ }
 {
     match outcome {

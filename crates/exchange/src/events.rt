@@ -99,6 +99,13 @@ fn sound(event: Event, replies: &[u8]) -> bool
     event.offset as usize + event.size as usize <= replies.len()
 }
 
+// The same of an event alone, for the engine that is handed one at a time.
+pub fn sound_alone(event: Event, replies: &[u8]) -> bool
+    ensures { λ r. ⌜ r ≡ rules.sound (now (replies .entry)) (entryOf event) ⌝ }
+{
+    sound(event, replies)
+}
+
 // "At most 512 events"; "Times in the list never fall."; "Every event is checked, those never read too."
 pub fn within_limits(form: Form, events: &[u8], replies: &[u8]) -> bool
     ensures { λ r. ⌜ r ≡ withinLimits (formOf form) (now (events .entry)) (now (replies .entry)) ⌝ }

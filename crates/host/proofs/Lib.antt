@@ -2,3 +2,5 @@
 pub mod Telling
 pub mod Serving
 pub mod Promises
+pub mod Keeping
+pub mod Stepwise

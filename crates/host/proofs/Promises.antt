@@ -29,7 +29,7 @@ use Rattle.log_call.specs.Asking.{chosen}
 use Rattle.host.specs.Door.{limitIn, asked, Served}
 
 -- Result 0 tells that a call was asked.
-was-asked : (b : Bool) → _≡_ {A = ℕ} 0 (cond b 0 1) → b ≡ true
+pub was-asked : (b : Bool) → _≡_ {A = ℕ} 0 (cond b 0 1) → b ≡ true
 was-asked true h = refl
 was-asked false h = absurd (omega arith)
 

@@ -14,6 +14,7 @@ ghost use Rattle.logs.specs.Layout.{said};
 ghost use Rattle.host.specs.Door.{versionOf, fields, isLimit, fits, limitFor, limitedTo, hasAlfid, InBytes, InNumbers};
 
 mod numbers;
+mod stepping;
 
 // Version 2 has its events addressed.
 fn version_of(addressed: bool) -> u16

@@ -75,9 +75,14 @@ module _ (k : Call) (quiet : Bool) (a s d before : List ℕ) {p : Prepared} (is 
   pub sends : p .length ≡ length (requestOf quiet c)
   sends = ap (λ (q : Prepared). q .length) is-ready
 
+  spelt : piecesOf p a s d ≡ requestOf quiet c
+  spelt = ap (λ (q : Prepared). piecesOf q a s d) is-ready ∙ pieces k quiet a s d
+
+  fits : first (sizes (length (requestOf quiet c)) (length before)) ≡ 0
+  fits = judge-pass (λ n. n) (sizes (length (requestOf quiet c)) (length before)) 0 (passes quiet c (length before) none-of-nine .1)
+
   pub stands : {done : Bool} {after : List ℕ} → Written (piecesOf p a s d) before done after → after ≡ over (requestOf quiet c) before
-  stands {done} {after} w =
-      let bytes : piecesOf p a s d ≡ requestOf quiet c = ap (λ (q : Prepared). piecesOf q a s d) is-ready ∙ pieces k quiet a s d in
-      let fits : first (sizes (length (requestOf quiet c)) (length before)) ≡ 0 = judge-pass (λ n. n) (sizes (length (requestOf quiet c)) (length before)) 0 (passes quiet c (length before) none-of-nine .1) in
-      let yes : done ≡ true = w .told ∙ rw (bytes, fits) in
-      w .buffer ∙ rw (yes, bytes)
+  stands {done} {after} w = let yes : done ≡ true = w .told ∙ rw (spelt, fits) in w .buffer ∙ rw (yes, spelt)
+
+  pub writes : Written (piecesOf p a s d) before true (over (requestOf quiet c) before)
+  writes = record { told = rw (spelt, fits); buffer = rw spelt }

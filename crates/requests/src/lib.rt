@@ -71,7 +71,7 @@ fn refused(number: u8) -> Prepared
 }
 
 // "The suppressed client sets bit 7"; `quiet` says that it is this client who calls.
-fn with_bit7(quiet: bool, sub: SubFunction) -> SubFunction
+pub fn with_bit7(quiet: bool, sub: SubFunction) -> SubFunction
     ensures { λ r. ⌜ r ≡ bit7 quiet sub ⌝ }
 {
     match sub {

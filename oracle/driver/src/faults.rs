@@ -7,6 +7,7 @@ use crate::limited;
 use crate::model::{Call, Case, Memory, Observed, ERROR, IDLE, REPLY};
 use crate::original::Original;
 use crate::sample;
+use crate::steps::{self, Stepper};
 use std::collections::BTreeMap;
 
 struct Fault {
@@ -214,7 +215,7 @@ fn noticed(cases: &[(Case, Observed)], side: Side, put_in: fn(&mut Case)) -> (us
 }
 
 /// The command `faults`: each fault must be noticed, and without one nothing.
-pub fn faults(side: Side, seed: u64) -> Result<usize, String> {
+pub fn faults(side: Side, stepper: Stepper, seed: u64) -> Result<usize, String> {
     let cases = judged_cases(seed);
     let mut failed = 0;
     let mut say = |name: &str, ok: bool, (count, fields): (usize, String)| {
@@ -248,7 +249,15 @@ pub fn faults(side: Side, seed: u64) -> Result<usize, String> {
         let with = noticed(&cases, side, *put_in);
         say(name, with.0 > 0, with);
     }
-    let all = FAULTS.len() + LIMIT_FAULTS.len() + ADDRESS_FAULTS.len() + 3;
+    let runs = steps::Runs::drawn(seed);
+    println!("{} runs, one event at a time.", runs.len());
+    let without = runs.noticed(stepper, None);
+    say("no fault in steps", without.0 == 0, without);
+    for fault in &steps::FAULTS {
+        let with = runs.noticed(stepper, Some(fault));
+        say(fault.name, with.0 > 0, with);
+    }
+    let all = FAULTS.len() + LIMIT_FAULTS.len() + ADDRESS_FAULTS.len() + steps::FAULTS.len() + 4;
     println!("{} passed, {failed} failed", all - failed);
     Ok(failed)
 }

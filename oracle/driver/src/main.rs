@@ -17,6 +17,7 @@ mod original;
 mod proved;
 mod rng;
 mod sample;
+mod steps;
 mod time;
 
 const USAGE: &str = "\
@@ -28,6 +29,8 @@ oracle limited SIDE [SEED]         SIDE under limits of notices, which the origi
 oracle limits SIDE LOGS EXPECTED   the line of each log under the limit that its expected line begins with
 oracle foreign SIDE [SEED]         SIDE on events with source addresses, which the original does not have
 oracle logs SIDE LOGS EXPECTED     SIDE's line of each log, of either version
+oracle steps SIDE [SEED]           SIDE one event at a time with ticks between, which the original does not do
+oracle runs SIDE RUNS              SIDE on the runs of a file, step by step
 oracle list PREFIX [SEED]          writes the fixed list, PREFIX.bin and PREFIX.expected
 oracle time [SEED] [LOGS]          what a call costs, on the logs of a file too
 SIDE is direct or, where the driver was built with it, proved. SEED is a number, 1 if left out.";
@@ -40,6 +43,14 @@ fn side(name: &str) -> Result<compare::Side, String> {
         #[cfg(not(feature = "proved"))]
         "proved" => Err("The driver was built without the proved library.".to_string()),
         other => Err(format!("There is no side {other}; it is direct or proved.")),
+    }
+}
+
+fn stepper(name: &str) -> Result<steps::Stepper, String> {
+    match name {
+        #[cfg(feature = "proved")]
+        "proved" => Ok(proved::step),
+        _ => side(name).map(|_| steps::direct as steps::Stepper),
     }
 }
 
@@ -61,11 +72,17 @@ fn run(words: &[&str]) -> Result<usize, String> {
         }
         ["compare", name, more @ ..] => compare::compare(side(name)?, seed(more.first())?, false),
         ["sample", name, more @ ..] => faults::sample(side(name)?, seed(more.first())?),
-        ["faults", name, more @ ..] => faults::faults(side(name)?, seed(more.first())?),
+        ["faults", name, more @ ..] => {
+            faults::faults(side(name)?, stepper(name)?, seed(more.first())?)
+        }
         ["limited", name, more @ ..] => limited::limited(side(name)?, seed(more.first())?),
         ["limits", name, logs, expected] => limited::limits(side(name)?, logs, expected),
         ["foreign", name, more @ ..] => foreign::foreign(side(name)?, seed(more.first())?),
         ["logs", name, logs, expected] => foreign::logs(side(name)?, logs, expected),
+        ["steps", name, more @ ..] => {
+            steps::steps(stepper(name)?, side(name)?, seed(more.first())?)
+        }
+        ["runs", name, runs] => steps::runs(stepper(name)?, runs),
         ["list", prefix, more @ ..] => list::list(prefix, seed(more.first())?),
         ["time", number, logs] => time::time(seed(Some(number))?, Some(logs)),
         ["time", more @ ..] => time::time(seed(more.first())?, None),

@@ -1,5 +1,6 @@
 //! What a call costs: the original under its paused clock, the direct program and (where it is linked) the proved library
-//! on the same cases in one run, repeated, with the spread of the ratios.
+//! on the same cases in one run, repeated, with the spread of the ratios; of the proved library also one event at a time, and
+//! single steps.
 
 use crate::compare::has_counterpart;
 use crate::generate::{good_reply, sample_calls, GENERATORS};
@@ -44,6 +45,7 @@ fn engines(cases: &[Case]) -> Vec<Engine<'_>> {
     #[cfg(feature = "proved")]
     let engines = {
         let prepared: Vec<_> = cases.iter().map(crate::proved::prepare).collect();
+        let again: Vec<_> = cases.iter().map(crate::proved::prepare).collect();
         let proved = Engine {
             name: "proved",
             pass: Box::new(move || {
@@ -52,7 +54,15 @@ fn engines(cases: &[Case]) -> Vec<Engine<'_>> {
                 }
             }),
         };
-        engines.into_iter().chain([proved]).collect()
+        let steps = Engine {
+            name: "by steps",
+            pass: Box::new(move || {
+                for case in &again {
+                    black_box(crate::proved::stepped(black_box(case), &mut buffer));
+                }
+            }),
+        };
+        engines.into_iter().chain([proved, steps]).collect()
     };
     engines
 }
@@ -103,6 +113,59 @@ fn report(name: &str, cases: &[Case]) {
         }
         println!();
     }
+}
+
+/// Nanoseconds of single steps, each taken by a copy of an engine: making the copy comes first, and is in the others but begin.
+#[cfg(feature = "proved")]
+fn single_steps() {
+    use crate::proved::{begin, prepare};
+    use bintrochis::{Engine as Steps, Event};
+    const WAIT: [u8; 3] = [0x7f, 0x22, 0x78];
+    const GOOD: [u8; 4] = [0x62, 0xf1, 0x90, 0x41];
+    fn tick(engine: &mut Steps, now: u64) {
+        let _ = black_box(engine.tick(black_box(now)));
+    }
+    fn hand(engine: &mut Steps, event: Event, replies: &[u8]) {
+        let _ = black_box(engine.event(black_box(event), black_box(replies)));
+    }
+    let case = Case::new(Call::ReadIdentifier { id: 0xf190 }, Setting::default());
+    let prepared = prepare(&case);
+    let (mut buffer, mut other) = ([0; 4095], [0; 4095]);
+    let waiting = begin(&prepared, &mut buffer);
+    let mut settled = waiting.clone();
+    tick(&mut settled, u64::MAX);
+    let steps: [(&str, &Steps, fn(&mut Steps)); 7] = [
+        ("a copy of the state", &waiting, |_| {}),
+        ("a tick, still waiting", &waiting, |x| tick(x, 20)),
+        ("a tick that settles", &waiting, |x| tick(x, 51)),
+        ("an idle event", &waiting, |x| hand(x, Event::idle(20), &[])),
+        ("a wait notice", &waiting, |x| {
+            hand(x, Event::reply(20, 0, 3, 0), &WAIT)
+        }),
+        ("a positive that settles", &waiting, |x| {
+            hand(x, Event::reply(20, 0, 4, 0), &GOOD)
+        }),
+        ("a step behind settling", &settled, |x| tick(x, 52)),
+    ];
+    println!("Single steps:");
+    let say = |name, pass: Box<dyn FnMut() + '_>| {
+        let mut engine = Engine { name, pass };
+        let taken = (0..ROUNDS).map(|_| measure(&mut engine)).collect();
+        let (least, middle, most) = spread(taken);
+        println!("  {name:<24}{middle:>9.1} ns ({least:.1} to {most:.1})");
+    };
+    for (name, from, step) in steps {
+        let pass = move || {
+            let mut engine = black_box(from).clone();
+            step(&mut engine);
+            black_box(&engine);
+        };
+        say(name, Box::new(pass));
+    }
+    let pass = move || {
+        let _ = black_box(begin(black_box(&prepared), &mut other));
+    };
+    say("begin", Box::new(pass));
 }
 
 /// Idle events and then a positive: the exchange reads all of them.
@@ -185,5 +248,7 @@ pub fn time(seed: u64, logs: Option<&str>) -> Result<usize, String> {
         case.reply(10, &reply);
         report(&format!("a reply of {length} bytes"), &[case]);
     }
+    #[cfg(feature = "proved")]
+    single_steps();
     Ok(0)
 }

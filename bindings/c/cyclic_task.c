@@ -1,0 +1,116 @@
+/* A control task that runs every 10 ms and cannot wait for a list of events. It asks hoist and trolley for their counts and keeps a state for
+ * each. In every cycle each state gets one call: an event if one is there, else a tick. The hoist says wait, and its count comes late, within
+ * the longer time. The trolley says nothing, and a tick past its deadline settles that; the hoist's replies, which the channel brings to both,
+ * are passed over. */
+#include <inttypes.h>
+#include <stdio.h>
+#include <string.h>
+
+#include "bintrochis.h"
+
+enum { CYCLE = 10, ROOM = 8, P2 = 50, P2_STAR = 5000 };
+
+/* What the channel brings: at 23 ms 7F 22 78 from the hoist, and at 897 ms its count, 1,000. */
+static const struct message {
+    uint32_t time;
+    uint16_t source;
+    uint16_t length;
+    uint8_t bytes[ROOM];
+} channel[] = {
+    {23, 0x7e8, 3, {0x7f, 0x22, 0x78}},
+    {897, 0x7e8, 5, {0x62, 0x21, 0x01, 0x03, 0xe8}},
+};
+enum { MESSAGES = sizeof channel / sizeof *channel };
+
+/* What the task keeps for a controller. */
+static struct controller {
+    const char *name;
+    uint16_t address;
+    size_t heard; /* messages handed over */
+    uint8_t request[ROOM];
+    uint64_t state[BINTROCHIS_STATE];
+} controllers[] = {{.name = "hoist", .address = 0x7e8}, {.name = "trolley", .address = 0x7e9}};
+enum { CONTROLLERS = sizeof controllers / sizeof *controllers };
+
+static bool waits(const struct controller *c) { return c->state[BINTROCHIS_OUTCOME] == BINTROCHIS_WAITING; }
+
+static bool begin(struct controller *c) {
+    static const uint8_t nothing[1] = {0};
+    if (bintrochis_begin(BINTROCHIS_READ_DATA_BY_IDENTIFIER, BINTROCHIS_STRICT, 0x2101, 0, 0, 0, P2, P2_STAR, 0, BINTROCHIS_NO_LIMIT,
+                         c->address, nothing, 0, c->request, sizeof c->request, c->state) != BINTROCHIS_DONE) {
+        return false;
+    }
+    printf("%s: send", c->name);
+    for (uint64_t i = 0; i < c->state[BINTROCHIS_REQUEST_LENGTH]; i++) {
+        printf(" %02x", c->request[i]);
+    }
+    printf(", deadline %" PRIu64 " ms\n", c->state[BINTROCHIS_STATE_DEADLINE]);
+    return waits(c);
+}
+
+/* What was decided. `replies` are the bytes lent with the step that settled it. */
+static void decided(const struct controller *c, const uint8_t *replies) {
+    if (c->state[BINTROCHIS_OUTCOME] == BINTROCHIS_POSITIVE && c->state[BINTROCHIS_DATA_LENGTH] == 2) {
+        const uint8_t *data = replies + c->state[BINTROCHIS_DATA_AT];
+        printf("count %d", data[0] * 256 + data[1]);
+    } else if (c->state[BINTROCHIS_OUTCOME] == BINTROCHIS_TIMEOUT) {
+        printf("timeout");
+    } else {
+        printf("outcome %" PRIu64, c->state[BINTROCHIS_OUTCOME]);
+    }
+    printf(" at %" PRIu64 " ms, events %" PRIu64 ", notices %" PRIu64 "\n", c->state[BINTROCHIS_TIME], c->state[BINTROCHIS_EVENTS],
+           c->state[BINTROCHIS_NOTICES]);
+}
+
+/* One cycle for one controller: a single call. A message has the time at which it came, which may be before this cycle; until all
+ * messages are handed over no tick says a later time. */
+static bool cycle(struct controller *c, uint64_t now) {
+    const uint64_t deadline = c->state[BINTROCHIS_STATE_DEADLINE];
+    const struct message *m = c->heard < MESSAGES && channel[c->heard].time <= now ? &channel[c->heard++] : NULL;
+    const uint8_t result = m ? bintrochis_event(c->state, c->request, sizeof c->request, m->time, BINTROCHIS_REPLY, 0, m->length, m->source,
+                                                m->bytes, sizeof m->bytes)
+                             : bintrochis_tick(c->state, now);
+    if (result != BINTROCHIS_DONE) {
+        printf("%s, cycle %" PRIu64 ": refused, %u\n", c->name, now, (unsigned)result);
+        return false;
+    }
+    if (!waits(c)) {
+        printf("%s, cycle %" PRIu64 ": settled by %s, ", c->name, now, m ? "an event" : "a tick");
+        decided(c, m ? m->bytes : NULL);
+    } else if (c->state[BINTROCHIS_STATE_DEADLINE] != deadline) {
+        printf("%s, cycle %" PRIu64 ": told to wait, deadline %" PRIu64 " ms\n", c->name, now, c->state[BINTROCHIS_STATE_DEADLINE]);
+    } else if (m) {
+        printf("%s, cycle %" PRIu64 ": passed over\n", c->name, now);
+    }
+    return true;
+}
+
+/* A step that is refused leaves every number of the state as it was. */
+static void refused(struct controller *c, const char *name, uint64_t now) {
+    uint64_t before[BINTROCHIS_STATE];
+    memcpy(before, c->state, sizeof before);
+    const uint8_t result = bintrochis_tick(c->state, now);
+    printf("%s: refused, %u, state %s\n", name, (unsigned)result, memcmp(before, c->state, sizeof before) ? "CHANGED" : "unchanged");
+}
+
+int main(void) {
+    printf("a state has %zu bytes\n", sizeof controllers[0].state);
+    for (size_t i = 0; i < CONTROLLERS; i++) {
+        if (!begin(&controllers[i])) {
+            return 1;
+        }
+    }
+    for (uint64_t now = CYCLE; waits(&controllers[0]) || waits(&controllers[1]); now += CYCLE) {
+        for (size_t i = 0; i < CONTROLLERS; i++) {
+            if (waits(&controllers[i]) && !cycle(&controllers[i], now)) {
+                return 1;
+            }
+        }
+    }
+    refused(&controllers[0], "a tick behind the decision", UINT64_MAX);
+    if (!begin(&controllers[1]) || bintrochis_tick(controllers[1].state, 20) != BINTROCHIS_DONE) {
+        return 1;
+    }
+    refused(&controllers[1], "19 ms behind 20 ms", 19);
+    return 0;
+}

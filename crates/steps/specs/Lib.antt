@@ -1,0 +1,3 @@
+-- What the contracts of `steps` cite.
+pub mod Stepping
+pub mod Running
