@@ -4,7 +4,7 @@ use native.Mathlib.Omega.{arith}
 use mathlib.Core.Bool.{true}
 use mathlib.Core.List.{List, [], _∷_, _++_}
 use mathlib.Core.Path.{_≡_}
-use lib.ListN.{length, take, drop}
+use lib.ListN.{length, drop}
 use borrow.Author.Tests.{lt-ltb}
 use Rattle.rules.specs.Bytes.{u16At, two, four, every, isByte}
 use Rattle.rules.specs.Events.{Form, plain, addressed, eventSize}
@@ -13,7 +13,7 @@ use Rattle.rules.specs.Writing.{putHeaderIn}
 use Rattle.rules.proofs.Judging.{both}
 use Rattle.rules.proofs.Opened.{byte-at}
 use Rattle.rules.proofs.Writing.{every-drop, every-take}
-use Rattle.mending.specs.Mend.{argumentsIn, eventsIn, leftIn, kept, mendedHeader, mendedLog}
+use Rattle.mending.specs.Mend.{argumentsIn, eventsIn, leftIn, kept, mendedHeader, keptBytes, mendedLog}
 use Rattle.mending.proofs.Written.{kept-few, length-mended, no-longer}
 
 -- A record, so that the list is found in `Bytes l`.
@@ -129,8 +129,7 @@ module _ (l : List ℕ) (b : every isByte l ≡ true) (short : length l ≤ 6553
         let start = headerSize (formIn h) + h .arguments in
         let events = eventsIn h l in
         let left = leftIn h l in
-        let keptBytes = take (kept h l * size) events in
         let behind : Bytes left = record { so = bytes-area l (start + h .events * size) (h .replies) b } in
-        let run = list-on keptBytes left (every-take isByte (kept h l * size) events (bytes-area l start (h .events * size) b)) behind in
-        let rest = list-on (argumentsIn h l) (keptBytes ++ left) (bytes-area l (headerSize (formIn h)) (h .arguments) b) run in
-        header-on (mendedHeader h l) in-range (argumentsIn h l ++ (keptBytes ++ left)) rest (formIn h) .so
+        let run = list-on (keptBytes h l) left (every-take isByte (kept h l * size) events (bytes-area l start (h .events * size) b)) behind in
+        let rest = list-on (argumentsIn h l) (keptBytes h l ++ left) (bytes-area l (headerSize (formIn h)) (h .arguments) b) run in
+        header-on (mendedHeader h l) in-range (argumentsIn h l ++ (keptBytes h l ++ left)) rest (formIn h) .so

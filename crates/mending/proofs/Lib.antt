@@ -1,5 +1,6 @@
 -- The theorems that specs/ states, and what they rest on.
 pub mod Runs
+pub mod Judged
 pub mod Written
 pub mod Whole
 pub mod Taken

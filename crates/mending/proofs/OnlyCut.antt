@@ -17,28 +17,17 @@ use Rattle.rules.specs.Events.{Form, plain, addressed, eventSize, entries, soun
 use Rattle.rules.specs.InOrder.{Check, unless}
 use Rattle.rules.specs.Logs.{Header, formOf, headerSize, formIn, headerOf, flag, Uses, usesOf, mostListens, fieldsOk, eventOk, argumentBytes, eventBytes, replyBytes, layoutOk, settingOf, callOf, lentOf, answerOf, area}
 use Rattle.rules.specs.Refusals.{arguments}
-use Rattle.rules.proofs.Judging.{judge-pass, pass-append, append-pass}
+use Rattle.rules.proofs.Judging.{pass-append, append-pass}
 use Rattle.rules.proofs.Writing.{every-take}
-use Rattle.mending.specs.Mend.{argumentsIn, eventsIn, leftIn, kept, mendedHeader, mendedLog, Report, report, refused, mended, headed, argued, mending, readable, mend}
+use Rattle.mending.specs.Mend.{argumentsIn, eventsIn, leftIn, kept, mendedHeader, mendedLog, Report, report, refused, mended, headed, mending, readable, mend}
 use Rattle.mending.specs.Promises.{Taken, entriesOf, others, Kept, Saved, Cut, OnlyCut}
 use Rattle.mending.proofs.Bytes.{bytes-area}
 use Rattle.mending.proofs.Cuts.{take-taken, area-cut, header-cut, call-same, passes, rising-take, sounds-left, within}
+use Rattle.mending.proofs.Judged.{all-read, gives-18, gives-19, gives-log}
 use Rattle.mending.proofs.Promises.{keeps-the-old, no-longer-than-it, still-bad}
 use Rattle.mending.proofs.Runs.{Fits, fits-whole, entries-front, run-fits}
 use Rattle.mending.proofs.Taken.{trues, trues-back, Laid, laid, short, events-there, left-there, accepts, in-limits}
 use Rattle.mending.proofs.Written.{length-area, kept-few, kept-whole, length-kept}
-
--- Bytes that are all read, and refused.
-module _ (m : List ℕ) (small : length m ≤ 65535) where
-  read : mend m ≡ mending (headerOf m) m
-  unfolding mend
-  read = ap (λ (x : List ℕ). mending (headerOf x) x) (take-all 65535 m small)
-
-  too-short : length m < headerSize (formIn (headerOf m)) → mend m ≡ refused 18
-  too-short h = read ∙ rw (lt-leb (headerSize (formIn (headerOf m))) (length m) h)
-
-  no-arguments : headed (headerOf m) m ≡ true → length m < headerSize (formIn (headerOf m)) + headerOf m .arguments → mend m ≡ refused 19
-  no-arguments head h = read ∙ rw (head, lt-leb (headerSize (formIn (headerOf m)) + headerOf m .arguments) (length m) h)
 
 -- "Arguments are address, size, data": the two lengths are among them.
 lengths-in : (h : Header) (u : Uses) → fieldsOk h u ≡ true → h .addressLength + h .sizeLength ≤ h .arguments
@@ -94,7 +83,9 @@ module _ (l : List ℕ) (t : Taken l) (n : ℕ) where
 
   -- Cut inside the header: its first two bytes say its version, or it has not even these.
   in-header : n < headerSize form → mend cut ≡ refused 18
-  in-header less = too-short cut cut-short (go (leb 2 n) refl)
+  in-header less =
+      let g = headerOf cut in
+      all-read cut cut-short ∙ gives-18 g cut (rw (lt-leb (headerSize (formIn g)) (length cut) (go (leb 2 n) refl)))
     where
       go : (b : Bool) → leb 2 n ≡ b → length cut < headerSize (formIn (headerOf cut))
       go true two =
@@ -112,9 +103,9 @@ module _ (l : List ℕ) (t : Taken l) (n : ℕ) where
 
   in-arguments : headerSize form ≤ n → n < start → mend cut ≡ refused 19
   in-arguments long less =
-      let same = same-header long in
-      no-arguments cut cut-short (subst⁻¹ (λ (g : Header). headed g cut ≡ true) same (headed-cut long))
-      (subst⁻¹ (λ (g : Header). length cut < headerSize (formIn g) + g .arguments) same (omega (arith, length-take n l)))
+      all-read cut cut-short ∙
+      ap (λ (g : Header). mending g cut) (same-header long) ∙
+      gives-19 h cut (headed-cut long) (lt-leb start (length cut) (omega (arith, length-take n l)))
 
   module _ (behind : start ≤ n) where
     abbrev log : List ℕ
@@ -131,9 +122,9 @@ module _ (l : List ℕ) (t : Taken l) (n : ℕ) where
 
     is : mend cut ≡ mended log told
     is =
-        read cut cut-short ∙
+        all-read cut cut-short ∙
         ap (λ (g : Header). mending g cut) (same-header long) ∙
-        judge-pass refused (unless (headed h cut) 18 ∷ unless (argued h cut) 19 ∷ []) (mended log told) (headed-cut long, (le-leb start (length cut) args, tt))
+        gives-log h cut (headed-cut long) (le-leb start (length cut) args)
 
     -- What is left of the areas is the front of each.
     arguments-cut : argumentsIn h cut ≡ argumentsIn h l
@@ -159,17 +150,17 @@ module _ (l : List ℕ) (t : Taken l) (n : ℕ) where
     old : Kept cut log told
     old = keeps-the-old cut log told cut-bytes is
 
-    all-read : readable cut ≡ cut
-    all-read = take-all 65535 cut cut-short
+    whole-cut : readable cut ≡ cut
+    whole-cut = take-all 65535 cut cut-short
 
     same-entries : entriesOf log ≡ take (kept h cut) (entriesOf l)
-    same-entries = old .entries ∙ ap (λ (x : List ℕ). take (kept h cut) (entries form (eventsIn h x))) all-read ∙ entries-cut
+    same-entries = old .entries ∙ ap (λ (x : List ℕ). take (kept h cut) (entries form (eventsIn h x))) whole-cut ∙ entries-cut
 
     same-replies : replyBytes (headerOf log) log ≡ leftIn h cut
-    same-replies = ap (λ (g : Header). replyBytes g log) (sym (old .new)) ∙ old .replies ∙ ap (leftIn h) all-read
+    same-replies = ap (λ (g : Header). replyBytes g log) (sym (old .new)) ∙ old .replies ∙ ap (leftIn h) whole-cut
 
     same-arguments : argumentsIn (mendedHeader h cut) log ≡ argumentsIn h l
-    same-arguments = old .arguments ∙ ap (argumentsIn h) all-read ∙ arguments-cut
+    same-arguments = old .arguments ∙ ap (argumentsIn h) whole-cut ∙ arguments-cut
 
     layout : layoutOk log ≡ true
     layout =
@@ -187,9 +178,9 @@ module _ (l : List ℕ) (t : Taken l) (n : ℕ) where
     in-the-limits =
         let k = kept h cut in
         let events : eventBytes (mendedHeader h cut) log ≡ take (k * eventSize form) (eventsIn h cut) =
-        old .events ∙ ap (λ (x : List ℕ). take (k * eventSize form) (eventsIn h x)) all-read
+        old .events ∙ ap (λ (x : List ℕ). take (k * eventSize form) (eventsIn h x)) whole-cut
         in
-        let replies : replyBytes (mendedHeader h cut) log ≡ leftIn h cut = old .replies ∙ ap (leftIn h) all-read in
+        let replies : replyBytes (mendedHeader h cut) log ≡ leftIn h cut = old .replies ∙ ap (leftIn h) whole-cut in
         let es : entries form (eventBytes (mendedHeader h cut) log) ≡ take k (entriesOf l) =
         ap (λ (g : Header). entries (formIn g) (eventBytes g log)) (old .new) ∙ same-entries
         in

@@ -2,20 +2,18 @@
 use Prim.Native.Nat.{ℕ, _+_, _*_, _/_, _≤_, min}
 use native.Mathlib.Omega.{arith}
 use mathlib.Core.Bool.{true, _&&_}
-use mathlib.Core.List.{List, [], _∷_}
+use mathlib.Core.List.{List}
 use mathlib.Core.Path.{_≡_, refl, sym, _∙_, ap, subst}
 use lib.ListN.{length, take, length-take}
-use lib.Seq.{take-all}
-use borrow.Author.Tests.{leb-true, le-leb, eq-eqb}
+use borrow.Author.Tests.{le-leb, eq-eqb}
 use Rattle.rules.specs.Bytes.{every, isByte}
 use Rattle.rules.specs.Events.{eventSize, entriesFrom, entries}
-use Rattle.rules.specs.InOrder.{unless}
 use Rattle.rules.specs.Logs.{Header, headerSize, formIn, headerOf, usesOf, fieldsOk, eventOk, eventBytes, layoutOk}
-use Rattle.rules.proofs.Judging.{judge-pass, judge-inv}
 use Rattle.rules.proofs.Writing.{every-take}
-use Rattle.mending.specs.Mend.{eventsIn, leftIn, run, kept, mendedHeader, mendedLog, Report, report, refused, mended, headed, argued, mending, readable, mend}
+use Rattle.mending.specs.Mend.{eventsIn, leftIn, run, kept, mendedHeader, mendedLog, Report, report, mended, headed, argued, mending, readable, mend}
 use Rattle.mending.specs.Promises.{entriesOf, Unchanged, NothingTold, Twice, Run, Longest, Kept, KeepsTheOld, NoLonger, OnlyBad, StillBad}
 use Rattle.mending.proofs.Bytes.{bytes-mended}
+use Rattle.mending.proofs.Judged.{all-read, gives-log, never, came, carried}
 use Rattle.mending.proofs.Runs.{fits-whole, fewer-bytes, take-from, good-run, good-most, good-at, good-rising, good-of}
 use Rattle.mending.proofs.Taken.{laid, short, taken-whole, whole-layout}
 use Rattle.mending.proofs.Whole.{Whole, whole-mend, mended-whole}
@@ -34,42 +32,6 @@ nothing-told h =
       eq-eqb (h .repliesAt) (h .repliesAt) refl,
       eq-eqb (h .total) (h .total) refl,
     )
-
--- What a mended log comes of: bytes that are read, with a header and arguments.
-record Came (l out : List ℕ) (r : Report) : Type 0 where
-  head : headed (headerOf (readable l)) (readable l) ≡ true
-  whole : headerSize (formIn (headerOf (readable l))) + headerOf (readable l) .arguments ≤ length (readable l)
-  log : mendedLog (headerOf (readable l)) (readable l) ≡ out
-  told : report (headerOf (readable l)) (mendedHeader (headerOf (readable l)) (readable l)) ≡ r
-
-never : (n : ℕ) {out : List ℕ} {r : Report} → refused n ≡ mended out r → ⊥
-never n e = let z : _≡_ {A = ℕ} 0 1 = cc in omega arith
-
-the-log : {a out : List ℕ} {b r : Report} → mended a b ≡ mended out r → a ≡ out
-the-log e = cc
-
-the-report : {a out : List ℕ} {b r : Report} → mended a b ≡ mended out r → b ≡ r
-the-report e = cc
-
-came : (l out : List ℕ) (r : Report) → mend l ≡ mended out r → Came l out r
-unfolding mend
-came l out r e =
-    let m = readable l in
-    let h = headerOf m in
-    let p = judge-inv refused (unless (headed h m) 18 ∷ unless (argued h m) 19 ∷ []) {x = mended (mendedLog h m) (report h (mendedHeader h m))} {y = mended out r} (λ n. never n) e in
-    record {
-      head = p .0 .0;
-      whole = leb-true (headerSize (formIn h) + h .arguments) (length m) (p .0 .1 .0);
-      log = the-log (p .1);
-      told = the-report (p .1);
-    }
-
--- So what holds of the log that is written and of its report holds of what was answered.
-carried : (P : List ℕ → Report → Type 0) (l out : List ℕ) (r : Report) → Came l out r → let h = headerOf (readable l) in
-    P (mendedLog h (readable l)) (report h (mendedHeader h (readable l))) → P out r
-carried P l out r c p =
-    let h = headerOf (readable l) in
-    subst (λ (x : Report). P out x) (c .told) (subst (λ (x : List ℕ). P x (report h (mendedHeader h (readable l)))) (c .log) p)
 
 read-short : (l : List ℕ) → (length (readable l) ≤ 65535) × (length (readable l) ≤ length l)
 read-short l = let n = length-take 65535 l in (omega arith, omega arith)
@@ -138,14 +100,11 @@ still-bad l out r bytes e =
     (whole-layout (mendedLog (headerOf m) m) (out-whole m (every-take isByte 65535 l bytes) (read-short l .0) (c .head) (c .whole)))
 
 pub only-bad : OnlyBad
-unfolding mend
 only-bad l bytes ok n e =
     let k = laid l ok in
     let h = headerOf l in
     let enough : argued h l ≡ true = le-leb (headerSize (formIn h) + h .arguments) (length l) (omega (arith, k .total, k .full)) in
-    let read = ap (λ (m : List ℕ). mending (headerOf m) m) (take-all 65535 l (short l bytes k)) in
-    let passed = judge-pass refused (unless (headed h l) 18 ∷ unless (argued h l) 19 ∷ []) (mended (mendedLog h l) (report h (mendedHeader h l))) (k .head, (enough, tt)) in
-    never n (sym e ∙ read ∙ passed)
+    never n (sym e ∙ all-read l (short l bytes k) ∙ gives-log h l (k .head) enough)
 
 -- The run, event by event.
 module _ (m : List ℕ) where

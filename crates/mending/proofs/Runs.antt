@@ -42,6 +42,10 @@ pub fewer-bytes : (form : Form) (k n : ℕ) → k ≤ n → k * eventSize form �
 fewer-bytes plain k n h = omega arith
 fewer-bytes addressed k n h = omega arith
 
+pub one-at-least : (form : Form) (k : ℕ) → k ≤ k * eventSize form
+one-at-least plain k = omega arith
+one-at-least addressed k = omega arith
+
 -- The events in the first bytes are the first events.
 module _ (form : Form) (m : ℕ) (bs : List ℕ) where
   entry-take : (i : ℕ) → i * eventSize form + eventSize form ≤ m → entryAt form (take m bs) i ≡ entryAt form bs i

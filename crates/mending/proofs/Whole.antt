@@ -2,19 +2,19 @@
 use Prim.Native.Nat.{ℕ, _+_, _*_, _≤_}
 use native.Mathlib.Omega.{arith}
 use mathlib.Core.Bool.{Bool, true, _&&_}
-use mathlib.Core.List.{List, [], _∷_, _++_}
+use mathlib.Core.List.{List, _++_}
 use mathlib.Core.Path.{_≡_, refl, sym, _∙_, ap, ap₂, subst⁻¹}
 use lib.Dec.{leb}
 use lib.ListN.{length, take, drop, length-drop, take-append-drop}
 use lib.Seq.{take-all, drop-drop, take-at}
 use borrow.Author.Tests.{le-leb}
 use Rattle.rules.specs.Events.{eventSize}
-use Rattle.rules.specs.InOrder.{unless}
 use Rattle.rules.specs.Logs.{Header, headerSize, formIn, headerOf, area}
 use Rattle.rules.specs.Writing.{Sayable, putHeader}
-use Rattle.rules.proofs.Judging.{both, judge-pass}
+use Rattle.rules.proofs.Judging.{both}
 use Rattle.rules.proofs.Writing.{writing}
-use Rattle.mending.specs.Mend.{argumentsIn, eventsIn, leftIn, kept, mendedHeader, mendedLog, report, refused, mended, headed, argued, mending, mend}
+use Rattle.mending.specs.Mend.{argumentsIn, eventsIn, leftIn, kept, mendedHeader, mendedLog, report, mended, headed, argued, mend}
+use Rattle.mending.proofs.Judged.{all-read, gives-log}
 use Rattle.mending.proofs.Written.{length-area, length-mended, no-longer, header-out, kept-out}
 
 -- Of the header h that stands in front of l.
@@ -79,12 +79,9 @@ module _ (l : List ℕ) (w : Whole (headerOf l) l) where
       parts l (headerSize (formIn h)) (h .arguments) (h .events * eventSize (formIn h)) (h .replies) (omega (arith, w .total, w .full))
 
   pub whole-mend : mend l ≡ mended l (report h h)
-  unfolding mend
   whole-mend =
       let enough : argued h l ≡ true = le-leb (headerSize (formIn h) + h .arguments) (length l) (omega (arith, w .total, w .full)) in
-      ap (λ (m : List ℕ). mending (headerOf m) m) (take-all 65535 l (w .short)) ∙
-      judge-pass refused (unless (headed h l) 18 ∷ unless (argued h l) 19 ∷ []) (mended (mendedLog h l) (report h (mendedHeader h l))) (w .head, (enough, tt)) ∙
-      ap₂ mended same-log (ap (report h) same-header)
+      all-read l (w .short) ∙ gives-log h l (w .head) enough ∙ ap₂ mended same-log (ap (report h) same-header)
 
 -- A mended log is whole.
 module _ (h : Header) (l : List ℕ) (said : Sayable (formIn h) 255 (h .listens)) (short : length l ≤ 65535) (head : headed h l ≡ true)

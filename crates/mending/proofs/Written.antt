@@ -13,7 +13,7 @@ use Rattle.rules.specs.Writing.{Sayable, putHeader}
 use Rattle.rules.proofs.Laying.{entries-length}
 use Rattle.rules.proofs.Opened.{byte-at}
 use Rattle.rules.proofs.Writing.{writing}
-use Rattle.mending.specs.Mend.{argumentsIn, eventsIn, leftIn, kept, mendedHeader, mendedLog}
+use Rattle.mending.specs.Mend.{argumentsIn, eventsIn, leftIn, kept, mendedHeader, keptBytes, mendedLog}
 use Rattle.mending.proofs.Runs.{whole-fits, fewer, fewer-bytes, entries-take, run-le, run-again}
 
 pub length-area : (l : List ℕ) (i n : ℕ) → length (area l i n) ≡ min n (length l - i)
@@ -35,9 +35,6 @@ module _ (h : Header) (l : List ℕ) where
   abbrev start : ℕ
   start = headerSize (formIn h) + h .arguments
 
-  abbrev keptBytes : List ℕ
-  keptBytes = take (kept h l * size) (eventsIn h l)
-
   pub kept-few : kept h l ≤ 512
   kept-few = omega (arith, run-le 0 (length (leftIn h l)) (take 512 (entries (formIn h) (eventsIn h l))), length-take 512 (entries (formIn h) (eventsIn h l)))
 
@@ -55,21 +52,21 @@ module _ (h : Header) (l : List ℕ) where
   pub kept-promised : kept h l ≤ h .events
   kept-promised = fewer (formIn h) (kept h l) (h .events) (omega (arith, kept-whole, length-area l start (h .events * size)))
 
-  pub length-kept : length keptBytes ≡ kept h l * size
+  pub length-kept : length (keptBytes h l) ≡ kept h l * size
   length-kept = omega (arith, length-take (kept h l * size) (eventsIn h l), kept-whole)
 
   module _ (argued : start ≤ length l) where
-    length-arguments : length (argumentsIn h l) ≡ h .arguments
+    pub length-arguments : length (argumentsIn h l) ≡ h .arguments
     length-arguments = omega (arith, length-area l (headerSize (formIn h)) (h .arguments))
 
     pub length-mended : length (mendedLog h l) ≡ start + kept h l * size + length (leftIn h l)
     length-mended =
         omega (
           arith,
-          length-append (putHeader (mendedHeader h l)) (argumentsIn h l ++ (keptBytes ++ leftIn h l)),
+          length-append (putHeader (mendedHeader h l)) (argumentsIn h l ++ (keptBytes h l ++ leftIn h l)),
           writing .header-long (mendedHeader h l),
-          length-append (argumentsIn h l) (keptBytes ++ leftIn h l),
-          length-append keptBytes (leftIn h l),
+          length-append (argumentsIn h l) (keptBytes h l ++ leftIn h l),
+          length-append (keptBytes h l) (leftIn h l),
           length-arguments,
           length-kept,
         )
@@ -87,32 +84,32 @@ module _ (h : Header) (l : List ℕ) where
 
     -- What its own header finds in it.
     pub header-out : Sayable (formIn h) 255 (h .listens) → headerOf (mendedLog h l) ≡ mendedHeader h l
-    header-out said = writing .header-read (mendedHeader h l) (argumentsIn h l ++ (keptBytes ++ leftIn h l)) said
+    header-out said = writing .header-read (mendedHeader h l) (argumentsIn h l ++ (keptBytes h l ++ leftIn h l)) said
 
-    behind-header : drop (headerSize (formIn h)) (mendedLog h l) ≡ argumentsIn h l ++ (keptBytes ++ leftIn h l)
-    behind-header = drop-at (putHeader (mendedHeader h l)) (argumentsIn h l ++ (keptBytes ++ leftIn h l)) (headerSize (formIn h)) (writing .header-long (mendedHeader h l))
+    behind-header : drop (headerSize (formIn h)) (mendedLog h l) ≡ argumentsIn h l ++ (keptBytes h l ++ leftIn h l)
+    behind-header = drop-at (putHeader (mendedHeader h l)) (argumentsIn h l ++ (keptBytes h l ++ leftIn h l)) (headerSize (formIn h)) (writing .header-long (mendedHeader h l))
 
-    behind-arguments : drop start (mendedLog h l) ≡ keptBytes ++ leftIn h l
+    behind-arguments : drop start (mendedLog h l) ≡ keptBytes h l ++ leftIn h l
     behind-arguments =
         sym (drop-drop (h .arguments) (headerSize (formIn h)) (mendedLog h l)) ∙
         ap (drop (h .arguments)) behind-header ∙
-        drop-at (argumentsIn h l) (keptBytes ++ leftIn h l) (h .arguments) length-arguments
+        drop-at (argumentsIn h l) (keptBytes h l ++ leftIn h l) (h .arguments) length-arguments
 
     pub arguments-out : argumentsIn (mendedHeader h l) (mendedLog h l) ≡ argumentsIn h l
-    arguments-out = ap (take (h .arguments)) behind-header ∙ take-at (argumentsIn h l) (keptBytes ++ leftIn h l) (h .arguments) length-arguments
+    arguments-out = ap (take (h .arguments)) behind-header ∙ take-at (argumentsIn h l) (keptBytes h l ++ leftIn h l) (h .arguments) length-arguments
 
-    pub events-out : eventsIn (mendedHeader h l) (mendedLog h l) ≡ keptBytes
-    events-out = ap (take (kept h l * size)) behind-arguments ∙ take-at keptBytes (leftIn h l) (kept h l * size) length-kept
+    pub events-out : eventsIn (mendedHeader h l) (mendedLog h l) ≡ keptBytes h l
+    events-out = ap (take (kept h l * size)) behind-arguments ∙ take-at (keptBytes h l) (leftIn h l) (kept h l * size) length-kept
 
     pub left-out : leftIn (mendedHeader h l) (mendedLog h l) ≡ leftIn h l
     left-out =
         ap (take (length (leftIn h l)))
         (sym (drop-drop (kept h l * size) start (mendedLog h l)) ∙
         ap (drop (kept h l * size)) behind-arguments ∙
-        drop-at keptBytes (leftIn h l) (kept h l * size) length-kept) ∙
+        drop-at (keptBytes h l) (leftIn h l) (kept h l * size) length-kept) ∙
         take-length (leftIn h l)
 
-    pub entries-out : entries (formIn h) keptBytes ≡ take (kept h l) (entries (formIn h) (eventsIn h l))
+    pub entries-out : entries (formIn h) (keptBytes h l) ≡ take (kept h l) (entries (formIn h) (eventsIn h l))
     entries-out = entries-take (formIn h) (eventsIn h l) (kept h l) kept-whole
 
     pub kept-out : kept (mendedHeader h l) (mendedLog h l) ≡ kept h l
@@ -120,7 +117,7 @@ module _ (h : Header) (l : List ℕ) where
         let es = entries (formIn h) (eventsIn h l) in
         let k = kept h l in
         let short : length (take k es) ≤ 512 = omega (arith, length-take k es, kept-few) in
-        let same : take 512 (entries (formIn h) keptBytes) ≡ take k (take 512 es) =
+        let same : take 512 (entries (formIn h) (keptBytes h l)) ≡ take k (take 512 es) =
         ap (take 512) entries-out ∙ take-all 512 (take k es) short ∙ sym (take-take k 512 es kept-few)
         in
         rw (events-out, left-out, same) (run-again 0 (length (leftIn h l)) (take 512 es))

@@ -58,11 +58,13 @@ corrected h events replies = record {
 abbrev pub mendedHeader : Header → List ℕ → Header
 mendedHeader h l = corrected h (kept h l) (length (leftIn h l))
 
--- "it keeps the longest run of leading events"; "reply bytes that the file still holds are" kept.
+-- "it keeps the longest run of leading events"
+abbrev pub keptBytes : Header → List ℕ → List ℕ
+keptBytes h l = take (kept h l * eventSize (formIn h)) (eventsIn h l)
+
+-- "reply bytes that the file still holds are" kept.
 abbrev pub mendedLog : Header → List ℕ → List ℕ
-mendedLog h l =
-    putHeader (mendedHeader h l) ++
-    (argumentsIn h l ++ (take (kept h l * eventSize (formIn h)) (eventsIn h l) ++ leftIn h l))
+mendedLog h l = putHeader (mendedHeader h l) ++ (argumentsIn h l ++ (keptBytes h l ++ leftIn h l))
 
 -- "It reports the events kept and promised, and each header field that it rewrote, old and new": the header that was read, and the one written in its place.
 pub record Report : Type 0 where
