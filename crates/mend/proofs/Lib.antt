@@ -2,3 +2,4 @@
 pub mod Copies
 pub mod Counting
 pub mod Answers
+pub mod Promises
