@@ -5,7 +5,7 @@ use mathlib.Core.List.{List}
 use mathlib.Core.Path.{_≡_}
 use lib.ListN.{length, length-append}
 use borrow.Author.Needs.{needs}
-use Rattle.rules.specs.Lines.{decimal, spaced}
+use Rattle.rules.specs.Lines.{decimal}
 use Rattle.text.specs.Written.{counted}
 use Rattle.text.proofs.Writing.{then, not-appended, appended}
 use Rattle.text.proofs.put_counted.Statement.{statement}

@@ -1,0 +1,3 @@
+-- Laws behind the proofs of `udsmend`.
+pub mod Texts
+pub mod Holding
