@@ -16,7 +16,7 @@ cut_hex() { head -c "$1" "$whole" | ./udsmend | bytes; }
 # The printed example: a log without its last two bytes.
 mended='00010703f1900000000000000024000100240006002e003400000032000013880000000000000014000000000003''7f227862f190'
 report=$'kept 1 promised 2\nevents-count 2 1\nreplies-count 8 6\nreplies-offset 56 46\ntotal 64 52'
-report() { head -c 62 "$whole" | ./udsmend 2>&1 >/dev/null; }
+report() { { head -c 62 "$whole" | ./udsmend >/dev/null; } 2>&1; }
 try "udsmend: a log without its last two bytes" 0 "$mended" "$report" cut_hex 62
 try "udsmend: its report, line by line" 0 "$report" "" report
 try "udsmend: a sound log comes out as it is" 0 "$(bytes <"$whole")" "kept 2 promised 2" cut_hex 64
