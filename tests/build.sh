@@ -1,5 +1,5 @@
 # shellcheck shell=bash disable=SC2154,SC2016
-# ./udslog: when it builds its program, where, and what it says. `scripts/shell-tests build` runs this, in a small repository with a
+# scripts/program, by ./udslog: when it builds the program, where, and what it says. `scripts/shell-tests build` runs this, in a small repository with a
 # stand-in for rt, which notes each call, and whose program says how often it was built.
 
 repository="$room/a repository"
@@ -7,6 +7,7 @@ tools=$room/tools
 calls=$room/calls
 mkdir -p "$repository/scripts" "$repository"/crates/{rules,wire,udslog,other}/src "$tools"
 cp udslog "$repository/"
+cp scripts/program "$repository/scripts/"
 echo 'fn main() {}' >"$repository/crates/udslog/src/main.rt"
 touch "$repository"/crates/{rules,wire,other}/src/{lib,more}.rt
 printf '%s\n' '# the crates' 'udslog: wire io # and the kit' 'wire : rules' 'rules:' 'other: rules' >"$repository/crates.txt"

@@ -6,10 +6,11 @@ use native.Mathlib.Omega.{arith}
 use mathlib.Core.Bool.{true, false}
 use mathlib.Core.List.{List, [], _∷_, _++_, append-assoc, append-nil}
 use mathlib.Core.Path.{_≡_, refl, sym, _∙_, ap}
+use borrow.Author.Tests.{le-leb, lt-leb}
 use lib.Dec.{leb}
 use lib.ListN.{length, take, drop, set, length-append, take-append-drop}
 use lib.Seq.{length-take-le, take-at, drop-append-add, drop-drop, append-snoc, set-split}
-use Rattle.text.specs.Written.{put, Put, Wrote}
+use Rattle.text.specs.Written.{put, Put, Wrote, Appended}
 use Rattle.text.specs.declared.Written.the-variants.{Line, NoRoom}
 
 put-put : (l a b : List ℕ) (at : ℕ) → at + length a ≤ length l → put (put l at a) (at + length a) b ≡ put l at (a ++ b)
@@ -60,3 +61,16 @@ module _ (bs l : List ℕ) where
     answer = rw e (ap Line (p .next ∙ zero-add (length bs)));
     line = rw e (p .line ∙ rw zero-add);
   }
+
+-- A text that is appended, where it has no room and where it has.
+module _ (bs l : List ℕ) (at : ℕ) where
+  pub not-appended : length l < at + length bs → Appended bs l at at l
+  not-appended h = let less = lt-leb (at + length bs) (length l) h in record { end = rw less; line = rw less }
+
+  pub appended : {m : List ℕ} {r : ℕ} → at + length bs ≤ length l → Put l at bs m r → Appended bs l at r m
+  appended h p = let fits = le-leb (at + length bs) (length l) h in record { end = rw fits (p .next); line = rw fits (p .line) }
+
+  pub was-put : {m : List ℕ} {r : ℕ} → at + length bs ≤ length l → Appended bs l at r m → Put l at bs m r
+  was-put h p =
+      let fits = le-leb (at + length bs) (length l) h in
+      record { next = rw fits at (p .end); line = rw fits at (p .line) }

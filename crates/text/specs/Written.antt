@@ -42,3 +42,12 @@ room word time events notices detail =
 pub record Wrote (bs before : List ℕ) (r : Written) (after : List ℕ) : Type 0 where
   pub answer : r ≡ cond (leb (length bs) (length before)) (Line (length bs)) NoRoom
   pub line : after ≡ cond (leb (length bs) (length before)) (bs ++ drop (length bs) before) before
+
+-- A word, and a number behind a space.
+abbrev pub counted : List ℕ → ℕ → List ℕ
+counted word n = word ++ spaced (decimal n)
+
+-- The text stands from index at on, and the answer is where it ends; where there is no room, nothing changes.
+pub record Appended (bs before : List ℕ) (at r : ℕ) (after : List ℕ) : Type 0 where
+  pub end : r ≡ cond (leb (at + length bs) (length before)) (at + length bs) at
+  pub line : after ≡ cond (leb (at + length bs) (length before)) (put before at bs) before

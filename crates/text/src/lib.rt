@@ -5,7 +5,7 @@ ghost use Prim.Native.Nat.{_+_, _<_, _≤_};
 ghost use lib.Dec.{leb};
 ghost use lib.ListN.{length};
 ghost use Rattle.rules.specs.Lines.{digit, decimal, hex, hexOrDash, spaced};
-ghost use Rattle.text.specs.Written.{Put, Wrote, text, shown, room};
+ghost use Rattle.text.specs.Written.{Put, Wrote, Appended, text, counted, shown, room};
 
 // A buffer of so many bytes has room for every line of document 01. The longest is a deviation's: the word's 9 letters, 8,192 digits for its number and
 // a reply of 4,095 bytes, 10 digits of time (2 · 4,294,967,295 at most), 3 digits each of events and notices, four spaces and the newline.
@@ -159,4 +159,22 @@ pub fn put_line(
         return Written::NoRoom;
     }
     Written::Line(write(line, word, time, events, notices, head, bytes))
+}
+
+// Writes a word, and a number behind a space, from index `at` on; the answer is where they end. Where there is no room, nothing changes and
+// the answer is `at`.
+pub fn put_counted(line: &mut [u8], at: usize, word: &[u8], number: u64) -> usize
+    ensures { λ r. ⌜ Appended (counted (now (word .entry)) number) (now (line .entry)) at r (now (line .exit)) ⌝ }
+{
+    if at > line.len() {
+        return at;
+    }
+    if word.len() > line.len() - at {
+        return at;
+    }
+    if decimal_length(number) >= line.len() - at - word.len() {
+        return at;
+    }
+    let n = put_word(line, at, word);
+    put_number(line, n, number)
 }

@@ -1,0 +1,5 @@
+-- Laws behind the proofs of `mend`.
+pub mod Copies
+pub mod Counting
+pub mod Answers
+pub mod Promises

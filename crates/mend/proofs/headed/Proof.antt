@@ -1,0 +1,38 @@
+-- `headed` meets its contract.
+use native.Mathlib.Omega.{arith}
+use mathlib.Core.Bool.{and-true}
+use borrow.Author.Needs.{needs}
+use borrow.Author.Tests.{le-leb, lt-leb, ne-eqb}
+use Rattle.logs.proofs.Layouts.{one-or-two}
+use Rattle.mend.proofs.headed.Statement.{statement}
+use Rattle.mend.proofs.headed.Tie as tie
+
+header-size-requires : tie.Need-header-size-requires
+header-size-requires c κs = search needs
+
+returns : tie.Need-returns
+returns c = rw (← c .before .header-size .ensures, lt-leb _ _ (c .if1 .taken))
+
+returns-2 : tie.Need-returns-2
+returns-2 c =
+    let long = c .before .before .before .before .before in
+    let sized = long .before in
+    let h = sized .before .before .args .h in
+    rw (← sized .header-size .ensures, le-leb _ _ (long .if1 .left), one-or-two (h .version) (omega arith) (omega arith), and-true)
+
+returns-3 : tie.Need-returns-3
+returns-3 c =
+    let long = c .before .before in
+    let sized = long .before in
+    let h = sized .before .before .args .h in
+    rw (← sized .header-size .ensures, le-leb _ _ (long .if1 .left), ne-eqb (h .version) 1 (λ e. omega arith), ne-eqb (h .version) 2 (λ e. omega arith))
+
+returns-4 : tie.Need-returns-4
+returns-4 c =
+    let long = c .before .before .before .before in
+    let sized = long .before in
+    let h = sized .before .before .args .h in
+    rw (← sized .header-size .ensures, le-leb _ _ (long .if1 .left), ne-eqb (h .version) 1 (λ e. omega arith), ne-eqb (h .version) 2 (λ e. omega arith))
+
+pub headed-spec : {M : Type 1} → statement M
+headed-spec = tie.close (tie.spec header-size-requires returns returns-2 returns-3 returns-4)

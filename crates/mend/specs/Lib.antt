@@ -1,0 +1,2 @@
+-- What the contract of `mend` cites besides `mending`.
+pub mod Answered

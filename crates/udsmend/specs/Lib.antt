@@ -1,0 +1,2 @@
+-- What the contracts of `udsmend` cite besides `mending`.
+pub mod Streams
