@@ -1,0 +1,2 @@
+-- What the contracts of `bench_line` cite beside `bench` and `rules`.
+pub mod Answered

@@ -1,0 +1,4 @@
+-- What the contracts of `responder` cite beside `bench` and `rules`.
+pub mod Decided
+pub mod Responding
+pub mod Promises

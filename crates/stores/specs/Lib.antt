@@ -1,0 +1,2 @@
+-- What the contracts of `stores` cite beside `bench` and `rules`.
+pub mod Places

@@ -1,0 +1,2 @@
+-- What the contracts of `udsbench` cite beside `bench`.
+pub mod Hearing
