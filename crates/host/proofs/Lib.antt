@@ -1,6 +1,5 @@
 -- What the proofs of this crate share.
-pub mod Telling
 pub mod Serving
 pub mod Promises
-pub mod Keeping
+pub mod Ways
 pub mod Stepwise

@@ -24,9 +24,10 @@ use Rattle.rules.proofs.Demand3.{demand3}
 use Rattle.rules.proofs.Foreign.{foreign-replies}
 use Rattle.rules.proofs.Lenient.{lenient}
 use Rattle.rules.proofs.Limited.{limited-holds}
-use Rattle.host.specs.Numbers.{valuesOf, answerNumbers, numbersOf}
+use Rattle.numbers.specs.Numbers.{valuesOf, answerNumbers, numbersOf}
 use Rattle.log_call.specs.Asking.{chosen}
-use Rattle.host.specs.Door.{limitIn, asked, Served}
+use Rattle.door.specs.Door.{limitIn, asked}
+use Rattle.host.specs.Served.{Served}
 
 -- Result 0 tells that a call was asked.
 pub was-asked : (b : Bool) → _≡_ {A = ℕ} 0 (cond b 0 1) → b ≡ true

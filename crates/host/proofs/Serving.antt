@@ -1,51 +1,30 @@
 -- From a whole call's contract to the door's: the numbers ask a call, or none.
 use Prim.Native.Nat.{ℕ}
 use native.Mathlib.Omega.{arith}
-use mathlib.Core.Bool.{Bool, true, false, cond}
+use mathlib.Core.Bool.{Bool, true, false}
 use mathlib.Core.Path.{_≡_, refl, sym, _∙_, ap, subst}
 use mathlib.Core.List.{List}
-use mathlib.Core.Option.{none, some}
-use lib.Dec.{leb, eqb}
+use lib.Dec.{eqb}
 use lib.ListN.{length, take, drop, length-drop}
 use lib.Seq.{take-all}
 use Rattle.rules.specs.Calls.{Call, Field, given}
 use Rattle.rules.specs.Client.{Result}
-use Rattle.rules.specs.Logs.{Header, flag, usesOf, fieldsOk}
+use Rattle.rules.specs.Logs.{Header, flag}
 use Rattle.rules.specs.Logs as rules
 use Rattle.rules.specs.Limited.{inLimit}
 use Rattle.rules.specs.Settings.{Setting, Lent}
-use Rattle.exchange.specs.declared.types.NoticeLimit.the-variants.{Unlimited, AtMost}
-use Rattle.exchange.specs.Meaning.{limitOf}
 use Rattle.requests.specs.Meaning.{callFrom, callOf}
 use Rattle.calls.specs.Meaning.{settingOf, lentOf, Called}
 use Rattle.calls.specs.declared.Ask.{Ask}
 use Rattle.calls.specs.declared.Answered.{Answered}
-use Rattle.log_call.specs.Asking.{chosen, sessionOf, Asks, AskedBy}
-use Rattle.log_call.specs.declared.Fields.{Fields}
-use Rattle.log_call.specs.declared.Fields.the-variants.{Unsound}
-use Rattle.host.specs.Numbers.{numbersOf, Tells}
-use Rattle.host.specs.Door.{limitIn, fits, asksOne, addressIn, sizeIn, dataIn, asked, lentIn, limitFor, limitedTo, Served, InBytes}
-
--- What the code was told of the header that it made: what it asks, and, if its fields suit a call, whether the arguments fit.
-pub told-of : {h made : Header} {x y : Fields} → made ≡ h → x ≡ y → AskedBy made x → AskedBy h y
-told-of {h} {made} {x} {y} e f k = subst (λ (m : Header). AskedBy m y) e (subst (λ (z : Fields). AskedBy made z) f k)
-
-pub unsuited : {h made : Header} {x : Fields} (limit n : ℕ) → made ≡ h → x ≡ Unsound → AskedBy made x → asksOne h limit n ≡ false
-unsuited {h} limit n e f k = rw (told-of {h = h} e f k)
-
-pub suited : {h made : Header} (limit n : ℕ) {b : Bool} → made ≡ h → fieldsOk h (usesOf (h .call)) ≡ true → b ≡ fits made limit n → asksOne h limit n ≡ b
-suited limit n e sound f = rw sound (sym (f ∙ ap (λ (k : Header). fits k limit n) e))
+use Rattle.log_call.specs.Asking.{chosen, sessionOf, Asks}
+use Rattle.numbers.specs.Numbers.{numbersOf, Tells}
+use Rattle.door.specs.Door.{limitIn, asksOne, addressIn, sizeIn, dataIn, asked, lentIn, limitFor, limitedTo}
+use Rattle.door.proofs.Asking.{limit-said}
+use Rattle.host.specs.Served.{Served, InBytes}
 
 pub asks-none : {b : Bool} {x : Result} {before told : List ℕ} → b ≡ false → Served b x before told 1 before told
 asks-none e = record { done = rw e; request = rw e; answer = rw e }
-
--- The code's limit is the one that the number says.
-limit-said : (limit : ℕ) → limitOf (limitFor limit) ≡ limitIn limit
-limit-said limit = go (leb limit 255)
-  where
-    go : (b : Bool) → limitOf (cond b (AtMost limit) Unlimited) ≡ cond b (some limit) none
-    go true = refl
-    go false = refl
 
 -- A call as its fields ask it.
 meant : {h : Header} {ask : Ask} (limit : ℕ) (a s : Field) (d : List ℕ) {before events replies : List ℕ} {x : Answered} {after′ : List ℕ} → Asks h ask

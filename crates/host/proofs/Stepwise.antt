@@ -55,12 +55,14 @@ use Rattle.steps.specs.Running as running
 use Rattle.steps.proofs.Phases.{ticks, hands}
 use Rattle.steps.proofs.Promises.{stays, refused-alike, written, answers-so}
 use Rattle.steps.proofs.Unique.{refused-event, refused-tick}
-use Rattle.host.specs.Door.{fields, isLimit, fits, asksOne, dataIn, limitFor, limitedTo, InBytes}
-use Rattle.host.specs.Numbers.{valuesOf, numbersOf, Tells}
+use Rattle.door.specs.Door.{fields, isLimit, fits, asksOne, dataIn, limitFor, limitedTo}
+use Rattle.numbers.specs.Numbers.{valuesOf, numbersOf, Tells}
+use Rattle.state_numbers.specs.Kept.{number, waits, nine, fifteen, headerIn, sound, AskedIn, askingIn, engineIn, isSet, bit, Told}
+use Rattle.host.specs.Served.{InBytes}
 use Rattle.host.specs.Stepping as door
 use Rattle.host.proofs.Promises.{was-asked}
 use Rattle.host.proofs.Serving.{asks-one, unique}
-use Rattle.host.specs.Stepping.{Ticked, BegunInBytes, addressIn, sizeIn, number, waits, nine, fifteen, headerIn, sound, AskedIn, askingIn, askingOf, engineIn, isSet, bit, Told, Retold, Through}
+use Rattle.host.specs.Stepping.{Ticked, BegunInBytes, addressIn, sizeIn, askingOf, Retold, Through}
 
 -- Each number in the range of its C type.
 pub record InRange (h : Header) (k : ℕ) : Type 0 where

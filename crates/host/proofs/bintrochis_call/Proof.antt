@@ -2,7 +2,8 @@
 use mathlib.Core.Path.{_∙_}
 use lib.ListN.{length}
 use borrow.Author.Tests.{not-true, not-false}
-use Rattle.host.proofs.Serving.{told-of, unsuited, suited, asks-none, asks-in-bytes}
+use Rattle.door.proofs.Asking.{told-of, unsuited, suited}
+use Rattle.host.proofs.Serving.{asks-none, asks-in-bytes}
 use borrow.Author.Needs.{needs}
 use Rattle.host.proofs.bintrochis_call.Statement.{statement}
 use Rattle.host.proofs.bintrochis_call.Tie as tie

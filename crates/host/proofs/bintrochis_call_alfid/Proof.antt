@@ -3,7 +3,8 @@ use mathlib.Core.Path.{_∙_}
 use lib.ListN.{length}
 use borrow.Author.Tests.{not-true, not-false}
 use Rattle.rules.specs.Calls.{alfid}
-use Rattle.host.proofs.Serving.{told-of, unsuited, suited, asks-none, asks-one}
+use Rattle.door.proofs.Asking.{told-of, unsuited, suited}
+use Rattle.host.proofs.Serving.{asks-none, asks-one}
 use borrow.Author.Needs.{needs}
 use Rattle.host.proofs.bintrochis_call_alfid.Statement.{statement}
 use Rattle.host.proofs.bintrochis_call_alfid.Tie as tie

@@ -3,8 +3,8 @@ use mathlib.Core.Path.{_∙_}
 use lib.ListN.{length}
 use borrow.Author.Tests.{not-true, not-false}
 use Rattle.rules.specs.Calls.{alfid}
-use Rattle.host.proofs.Keeping.{begins-nothing, begins-one}
-use Rattle.host.proofs.Serving.{told-of, unsuited, suited}
+use Rattle.door.proofs.Asking.{told-of, unsuited, suited}
+use Rattle.host.proofs.Ways.{begins-nothing, begins-one}
 use borrow.Author.Needs.{needs}
 use Rattle.host.proofs.stepping.bintrochis_begin_alfid.Statement.{statement}
 use Rattle.host.proofs.stepping.bintrochis_begin_alfid.Tie as tie

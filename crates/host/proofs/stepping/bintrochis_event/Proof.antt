@@ -3,8 +3,9 @@ use mathlib.Core.Path.{_≡_, subst}
 use Rattle.steps.specs.declared.Engine.{Engine}
 use Rattle.steps.specs.declared.Stepped.{Stepped}
 use Rattle.steps.specs.Stepping.{Hands}
-use Rattle.host.specs.Stepping.{AskedIn, addressIn, sizeIn, entry}
-use Rattle.host.proofs.Keeping.{was-settled, asked-nothing, step-refused, step-taken}
+use Rattle.state_numbers.specs.Kept.{AskedIn}
+use Rattle.host.specs.Stepping.{addressIn, sizeIn, entry}
+use Rattle.host.proofs.Ways.{was-settled, asked-nothing, step-refused, step-taken}
 use borrow.Author.Needs.{needs}
 use Rattle.host.proofs.stepping.bintrochis_event.Statement.{statement}
 use Rattle.host.proofs.stepping.bintrochis_event.Tie as tie

@@ -4,8 +4,8 @@ use mathlib.Core.Path.{_≡_, subst}
 use Rattle.steps.specs.declared.Engine.{Engine}
 use Rattle.steps.specs.declared.Stepped.{Stepped}
 use Rattle.steps.specs.Stepping.{tickOf}
-use Rattle.host.specs.Stepping.{AskedIn}
-use Rattle.host.proofs.Keeping.{was-settled, asked-nothing, step-refused, step-taken}
+use Rattle.state_numbers.specs.Kept.{AskedIn}
+use Rattle.host.proofs.Ways.{was-settled, asked-nothing, step-refused, step-taken}
 use borrow.Author.Needs.{needs}
 use Rattle.host.proofs.stepping.bintrochis_tick.Statement.{statement}
 use Rattle.host.proofs.stepping.bintrochis_tick.Tie as tie

@@ -1,0 +1,2 @@
+-- What the contracts of `door` cite besides `rules`.
+pub mod Door

@@ -1,0 +1,2 @@
+-- What the contracts of `state_numbers` cite.
+pub mod Kept
