@@ -211,31 +211,45 @@ fn select_line(case: &[u8], line: &mut [u8]) -> Written {
     )
 }
 
+// A line of the door's numbers: the detail is the last so many bytes of its number, and then the bytes.
+fn told(line: &mut [u8], word: &[u8], answer: &[u64; 15], digits: usize, bytes: &[u8]) -> Written {
+    let detail = answer[1];
+    let number = [(detail / 256 % 256) as u8, (detail % 256) as u8];
+    let skipped = if digits < 2 { 2 - digits } else { 0 };
+    put_line(
+        line,
+        word,
+        answer[4],
+        answer[5],
+        answer[6],
+        part(&number, skipped, digits),
+        bytes,
+    )
+}
+
+fn data_in<'a>(answer: &[u64; 15], replies: &'a [u8]) -> &'a [u8] {
+    part(replies, answer[7] as usize, answer[8] as usize)
+}
+
+fn reply_in<'a>(answer: &[u64; 15], replies: &'a [u8]) -> &'a [u8] {
+    part(replies, answer[9] as usize, answer[10] as usize)
+}
+
 // The line of the door's numbers, which name parts of the reply bytes.
 fn answer_line(answer: &[u64; 15], replies: &[u8], line: &mut [u8]) -> Written {
     let outcome = answer[0];
-    let detail = answer[1];
-    let low = (detail % 256) as u8;
-    let time = answer[4];
-    let events = answer[5];
-    let notices = answer[6];
-    let data = part(replies, answer[7] as usize, answer[8] as usize);
-    let reply = part(replies, answer[9] as usize, answer[10] as usize);
     match outcome {
-        0 => put_line(line, b"positive", time, events, notices, b"", data),
-        1 => put_line(line, b"suppressed", time, events, notices, b"", b""),
-        2 => put_line(line, b"negative", time, events, notices, &[low], b""),
-        3 => put_line(line, b"timeout", time, events, notices, b"", b""),
-        4 => put_line(line, b"disconnected", time, events, notices, b"", b""),
-        5 => {
-            let digits = [(detail / 256 % 256) as u8, low];
-            put_line(line, b"transport", time, events, notices, &digits, b"")
-        }
-        6 => put_line(line, b"deviation", time, events, notices, &[low], reply),
-        7 => put_line(line, b"length", time, events, notices, b"", b""),
-        8 => put_line(line, b"overflow", time, events, notices, b"", reply),
-        9 => put_line(line, b"refused", time, events, notices, &[low], b""),
-        10 => put_line(line, b"pendinglimit", time, events, notices, b"", b""),
+        0 => told(line, b"positive", answer, 0, data_in(answer, replies)),
+        1 => told(line, b"suppressed", answer, 0, b""),
+        2 => told(line, b"negative", answer, 1, b""),
+        3 => told(line, b"timeout", answer, 0, b""),
+        4 => told(line, b"disconnected", answer, 0, b""),
+        5 => told(line, b"transport", answer, 2, b""),
+        6 => told(line, b"deviation", answer, 1, reply_in(answer, replies)),
+        7 => told(line, b"length", answer, 0, b""),
+        8 => told(line, b"overflow", answer, 0, reply_in(answer, replies)),
+        9 => told(line, b"refused", answer, 1, b""),
+        10 => told(line, b"pendinglimit", answer, 0, b""),
         _ => Written::NoRoom,
     }
 }
@@ -353,35 +367,36 @@ fn say(name: &[u8], tally: Tally) {
     io::write_all(STDOUT_FILENO, b" wrong\n");
 }
 
+// A list of these cases, in two files.
+fn play(name: &[u8], list: List, cases: &[u8], lines: &[u8]) {
+    let cases = os::open_read(cases);
+    let lines = os::open_read(lines);
+    say(name, replay(list, cases, lines));
+}
+
 fn main() {
-    let logs = os::open_read(b"logs.bin");
-    let log_lines = os::open_read(b"logs.expected");
-    say(b"logs", replay(List::Logs, logs, log_lines));
-    let listings = os::open_read(b"listings.bin");
-    let listing_lines = os::open_read(b"listings.expected");
-    say(b"listings", replay(List::Logs, listings, listing_lines));
-    let blocks = os::open_read(b"blocks.bin");
-    let block_lines = os::open_read(b"blocks.expected");
-    say(b"blocks", replay(List::Blocks, blocks, block_lines));
-    let names = os::open_read(b"names.bin");
-    let name_lines = os::open_read(b"names.expected");
-    say(b"names", replay(List::Names, names, name_lines));
-    let memory = os::open_read(b"memory.bin");
-    let memory_lines = os::open_read(b"memory.expected");
-    say(b"memory", replay(List::Memory, memory, memory_lines));
-    let alfid = os::open_read(b"alfid.bin");
-    let alfid_lines = os::open_read(b"alfid.expected");
-    say(b"alfid", replay(List::Alfid, alfid, alfid_lines));
-    let selections = os::open_read(b"selections.bin");
-    let selection_lines = os::open_read(b"selections.expected");
-    say(
-        b"selections",
-        replay(List::Selections, selections, selection_lines),
+    play(b"logs", List::Logs, b"logs.bin", b"logs.expected");
+    play(
+        b"listings",
+        List::Logs,
+        b"listings.bin",
+        b"listings.expected",
     );
-    let limits = os::open_read(b"limits.bin");
-    let limit_lines = os::open_read(b"limits.expected");
-    say(b"limits", replay(List::Limits, limits, limit_lines));
-    let addressed = os::open_read(b"addressed.bin");
-    let addressed_lines = os::open_read(b"addressed.expected");
-    say(b"addressed", replay(List::Logs, addressed, addressed_lines));
+    play(b"blocks", List::Blocks, b"blocks.bin", b"blocks.expected");
+    play(b"names", List::Names, b"names.bin", b"names.expected");
+    play(b"memory", List::Memory, b"memory.bin", b"memory.expected");
+    play(b"alfid", List::Alfid, b"alfid.bin", b"alfid.expected");
+    play(
+        b"selections",
+        List::Selections,
+        b"selections.bin",
+        b"selections.expected",
+    );
+    play(b"limits", List::Limits, b"limits.bin", b"limits.expected");
+    play(
+        b"addressed",
+        List::Logs,
+        b"addressed.bin",
+        b"addressed.expected",
+    );
 }
