@@ -1,0 +1,3 @@
+-- Request Eight, "Import from candump": its definitions.
+pub mod Texts
+pub mod Import
