@@ -7,12 +7,12 @@ use mathlib.Core.Option.{Option, none, some}
 use mathlib.Core.Path.{_≡_, refl, sym, _∙_, ap, ap₂}
 use lib.Dec.{leb, eqb}
 use lib.ListN.{length, getD, take, drop, length-append, length-take, length-drop, take-append-drop}
-use lib.Seq.{length-take-le}
-use borrow.Author.Tests.{le-leb, lt-leb, eq-eqb, ne-eqb, leb-true}
+use lib.Seq.{length-take-le, take-at}
+use borrow.Author.Tests.{le-leb, lt-leb, eq-eqb, ne-eqb, leb-true, eqb-false}
 use Rattle.wire.specs.Buffers.{with, Copied}
 use Rattle.isotp.specs.Frames.{kind, low, announced}
 use Rattle.isotp.specs.Joining.{State, idle, under, Fed, fed, passed, busy, grown, goesOn, singles, firsts, feed}
-use Rattle.isotp.specs.Held.{joinerOf, isMessage, settled, stateIn, stateOf, givesOf, said, held, over, Sound, Does}
+use Rattle.isotp.specs.Held.{joinerOf, isMessage, settled, stateIn, stateOf, givesOf, said, held, over, givenOf, Sound, Does}
 use Rattle.isotp.specs.declared.Joiner.{Joiner}
 use Rattle.isotp.specs.declared.Heard.{Heard}
 use Rattle.isotp.specs.declared.Gives.{Gives}
@@ -50,6 +50,24 @@ busy-state j l = go (eqb (j .due) 0)
     go true = refl
     go false = refl
 
+-- Sound numbers are settled.
+settled-same : (j : Joiner) (l : List ℕ) → Sound j l → settled j ≡ j
+settled-same j l sound = go (eqb (j .due) 0) refl (sound .exact)
+  where
+    go : (b : Bool) → eqb (j .due) 0 ≡ b → joinerOf (cond b idle (under (j .due) (j .next) (take (j .have) l))) ≡ j → settled j ≡ j
+    go true e exact = ap settled (sym exact) ∙ exact
+    go false e exact =
+        let some-due : 1 ≤ j .due = omega (arith, eqb-false (j .due) 0 e) in
+        rw (le-leb 1 (j .due) some-due, le-leb (j .have + j .due) 4095 (sound .size), le-leb (j .next) 15 (omega (arith, sound .number)))
+
+-- What the buffer says behind an answer.
+front-of : (bs l : List ℕ) → take (length bs) (over bs l) ≡ bs
+front-of bs l = take-at bs (drop (length bs) l) (length bs) refl
+
+under-says : (due n : ℕ) (bs l : List ℕ) → 1 ≤ due → length bs + due ≤ 4095 → n ≤ 15 → stateOf (joinerOf (under due n bs)) (over bs l) ≡ under due n bs
+under-says due n bs l some-due size number =
+    rw (le-leb 1 due some-due, le-leb (length bs + due) 4095 size, le-leb n 15 number, ne-eqb due 0 (omega arith)) (ap (under due n) (front-of bs l))
+
 module _ (j : Joiner) (f l : List ℕ) (sound : Sound j l) where
   in-place : l ≡ over (held (stateIn j l) none) l
   in-place = go (eqb (j .due) 0)
@@ -62,16 +80,26 @@ module _ (j : Joiner) (f l : List ℕ) (sound : Sound j l) where
 
   -- Nothing is done.
   pub unchanged : {want : Fed} → want ≡ passed (stateIn j l) → Does want l (heard j false Nothing) l
-  unchanged e = rw e (record { answer = ap (λ (k : Joiner). heard k false Nothing) (sym (sound .exact)); buffer = in-place })
+  unchanged e = rw e
+      (record {
+        answer = ap (λ (k : Joiner). heard k false Nothing) (sym (sound .exact));
+        buffer = in-place;
+        says = ap (λ (k : Joiner). stateIn k l) (settled-same j l sound);
+        given = refl;
+      })
 
   -- The bytes s are put behind the first ones of the buffer.
   written : {s after : List ℕ} {done : Bool} (n : ℕ) (want : Fed) (r : Heard) → n + length s ≤ 4095 → Copied l n s done after →
-      held (want .state) (want .gives) ≡ take n l ++ s → r ≡ said want → Does want l r after
+      held (want .state) (want .gives) ≡ take n l ++ s → r ≡ said want →
+      stateOf (joinerOf (want .state)) (over (held (want .state) (want .gives)) l) ≡ want .state →
+      givenOf (givesOf (want .gives)) (over (held (want .state) (want .gives)) l) ≡ want .gives → Does want l r after
   unfolding with
-  written {s = s} n want r h copied e a =
+  written {s = s} {after = after} n want r h copied e a says given =
       let front : length (take n l ++ s) ≡ n + length s =
       length-append (take n l) s ∙ ap (λ (k : ℕ). k + length s) (length-take-le n l (omega (arith, sound .room))) in
-      record { answer = a; buffer = copied .buffer ∙ rw (le-leb (n + length s) (length l) (omega (arith, sound .room)), e, front) }
+      let put : after ≡ over (held (want .state) (want .gives)) l =
+      copied .buffer ∙ rw (le-leb (n + length s) (length l) (omega (arith, sound .room)), e, front) in
+      record { answer = a; buffer = put; says = rw (a, put) says; given = rw (a, put) given }
 
   module _ (b size : ℕ) (eb : b ≡ getD f 0 0) (es : size ≡ b % 16) where
     pub single-empty : size < 1 → Does (singles (stateIn j l) f) l (heard j false Nothing) l
@@ -91,7 +119,7 @@ module _ (j : Joiner) (f l : List ℕ) (sound : Sound j l) where
         let bytes : s ≡ take (low f) (drop 1 f) = part ∙ ap (λ (m : ℕ). take m (drop 1 f)) right in
         rw (le-leb 1 (low f) (omega arith), le-leb (low f) 7 (omega arith), le-leb (low f + 1) (length f) (omega arith), busy-state j l, ← bytes)
         (written 0 (fed idle (not (eqb (j .due) 0)) (some s)) (heard (joinerOf idle) (not (eqb (j .due) 0)) (Message size)) (omega arith) copied refl
-        (ap (λ (m : ℕ). heard (joinerOf idle) (not (eqb (j .due) 0)) (Message m)) (sym n)))
+        (ap (λ (m : ℕ). heard (joinerOf idle) (not (eqb (j .due) 0)) (Message m)) (sym n)) refl (ap some (front-of s l)))
 
   module _ (b c size : ℕ) (eb : b ≡ getD f 0 0) (ec : c ≡ getD f 1 0) (es : size ≡ b % 16 * 256 + c) where
     pub first-small : size < 8 → Does (firsts (stateIn j l) f) l (heard j false Nothing) l
@@ -100,22 +128,23 @@ module _ (j : Joiner) (f l : List ℕ) (sound : Sound j l) where
     pub first-short : 8 ≤ size → length f < 8 → Does (firsts (stateIn j l) f) l (heard j false Nothing) l
     first-short h k = unchanged (rw (le-leb 8 (announced f) (omega arith), lt-leb 8 (length f) (omega arith)))
 
-    pub first-begun : {s after : List ℕ} {done : Bool} → 8 ≤ size → 8 ≤ length f → s ≡ take 6 (drop 2 f) → Copied l 0 s done after →
+    pub first-begun : {s after : List ℕ} {done : Bool} → c < 256 → 8 ≤ size → 8 ≤ length f → s ≡ take 6 (drop 2 f) → Copied l 0 s done after →
         Does (firsts (stateIn j l) f) l (heard (record { due = size - 6; next = 1; have = 6 }) (not (eqb (j .due) 0)) Nothing) after
-    first-begun {s = s} h long part copied =
+    first-begun {s = s} byte h long part copied =
         let n : length s ≡ 6 = ap (length {A = ℕ}) part ∙ length-take-le 6 (drop 2 f) (omega (arith, length-drop 2 f)) in
         let due : announced f - 6 ≡ size - 6 = omega arith in
         rw (le-leb 8 (announced f) (omega arith), le-leb 8 (length f) long, busy-state j l, due, ← part)
         (written 0 (fed (under (size - 6) 1 s) (not (eqb (j .due) 0)) none)
         (heard (record { due = size - 6; next = 1; have = 6 }) (not (eqb (j .due) 0)) Nothing) (omega arith) copied refl
-        (ap (λ (m : ℕ). heard (record { due = size - 6; next = 1; have = m }) (not (eqb (j .due) 0)) Nothing) (sym n)))
+        (ap (λ (m : ℕ). heard (record { due = size - 6; next = 1; have = m }) (not (eqb (j .due) 0)) Nothing) (sym n))
+        (under-says (size - 6) 1 s l (omega arith) (omega arith) (omega arith)) refl)
 
   pub next-idle : j .due ≡ 0 → Does (goesOn (stateIn j l) f) l (heard j false Nothing) l
   next-idle h = unchanged (rw (eq-eqb (j .due) 0 h))
 
   module _ (b : ℕ) (some-due : j .due ≡ 0 → ⊥) (eb : b ≡ getD f 0 0) where
     pub next-wrong : (b % 16 ≡ j .next → ⊥) → Does (goesOn (stateIn j l) f) l (heard (joinerOf idle) true Nothing) l
-    next-wrong h = rw (ne-eqb (j .due) 0 some-due, ← eb, ne-eqb (b % 16) (j .next) h) (record { answer = refl; buffer = refl })
+    next-wrong h = rw (ne-eqb (j .due) 0 some-due, ← eb, ne-eqb (b % 16) (j .next) h) (record { answer = refl; buffer = refl; says = refl; given = refl })
 
     module _ (n : ℕ) (right : b % 16 ≡ j .next) (en : n ≡ min 7 (j .due)) where
       pub next-short : length f < n + 1 → Does (goesOn (stateIn j l) f) l (heard j false Nothing) l
@@ -141,7 +170,8 @@ module _ (j : Joiner) (f l : List ℕ) (sound : Sound j l) where
         next-last h =
             grew (rw (le-leb (j .due) 7 h)
             (written (j .have) (fed idle false (some (take (j .have) l ++ s))) (heard (joinerOf idle) false (Message (j .have + n)))
-            (omega (arith, sound .size, part-length)) copied refl (ap (λ (m : ℕ). heard (joinerOf idle) false (Message m)) all-length)))
+            (omega (arith, sound .size, part-length)) copied refl (ap (λ (m : ℕ). heard (joinerOf idle) false (Message m)) all-length) refl
+            (ap some (front-of (take (j .have) l ++ s) l))))
 
         pub next-more : 7 < j .due →
             Does (goesOn (stateIn j l) f) l (heard (record { due = j .due - 7; next = (j .next + 1) % 16; have = j .have + n }) false Nothing) after
@@ -150,7 +180,8 @@ module _ (j : Joiner) (f l : List ℕ) (sound : Sound j l) where
             (written (j .have) (fed (under (j .due - 7) ((j .next + 1) % 16) (take (j .have) l ++ s)) false none)
             (heard (record { due = j .due - 7; next = (j .next + 1) % 16; have = j .have + n }) false Nothing)
             (omega (arith, sound .size, part-length)) copied refl
-            (ap (λ (m : ℕ). heard (record { due = j .due - 7; next = (j .next + 1) % 16; have = m }) false Nothing) all-length)))
+            (ap (λ (m : ℕ). heard (record { due = j .due - 7; next = (j .next + 1) % 16; have = m }) false Nothing) all-length)
+            (under-says (j .due - 7) ((j .next + 1) % 16) (take (j .have) l ++ s) l (omega arith) (omega (arith, sound .size, all-length)) (omega arith)) refl))
 
 -- By the first byte's high half.
 module _ (j : Joiner) (f l : List ℕ) (b : ℕ) (eb : b ≡ getD f 0 0) where

@@ -45,10 +45,16 @@ held (under due n bs) none = bs
 abbrev pub over : List ℕ → List ℕ → List ℕ
 over bs l = bs ++ drop (length bs) l
 
--- The answer, and the buffer behind it.
+abbrev pub givenOf : Gives → List ℕ → Option (List ℕ)
+givenOf Nothing l = none
+givenOf (Message n) l = some (take n l)
+
+-- The answer, and the buffer behind it; together they say what is wanted.
 pub record Does (want : Fed) (before : List ℕ) (r : Heard) (after : List ℕ) : Type 0 where
   pub answer : r ≡ said want
   pub buffer : after ≡ over (held (want .state) (want .gives)) before
+  pub says : stateOf (r .joiner) after ≡ want .state
+  pub given : givenOf (r .gives) after ≡ want .gives
 
 -- What is known of settled numbers.
 pub record Sound (j : Joiner) (l : List ℕ) : Type 0 where
