@@ -1,3 +1,4 @@
 -- Request Eight, "Import from candump": its definitions.
 pub mod Texts
 pub mod Import
+pub mod Kept

@@ -1,0 +1,3 @@
+-- Laws behind the proofs of `imports`.
+pub mod Noting
+pub mod Stepping
