@@ -280,8 +280,16 @@ returns-3 c =
     let at-decimal = at-pick4 .before in
     let at-between = at-decimal .before in
     let at-phase = at-between .before .before in
-    rw ((at-phase .phase .given .1), (c .pick6 .ensures), (at-pick5 .pick5 .ensures), (at-both .both .ensures), (at-between2 .between2 .ensures),
-    (at-pick4 .pick4 .ensures), (at-decimal .decimal .ensures), (at-between .between .ensures))
+    rw (
+      (at-phase .phase .given .1),
+      (c .pick6 .ensures),
+      (at-pick5 .pick5 .ensures),
+      (at-both .both .ensures),
+      (at-between2 .between2 .ensures),
+      (at-pick4 .pick4 .ensures),
+      (at-decimal .decimal .ensures),
+      (at-between .between .ensures),
+    )
 
 returns-4 : tie.Need-returns-4
 unfolding after
@@ -293,8 +301,16 @@ returns-4 c =
     let at-decimal2 = at-pick7 .before in
     let at-between3 = at-decimal2 .before in
     let at-phase2 = at-between3 .before .before in
-    rw ((at-phase2 .phase2 .given .1), (c .pick9 .ensures), (at-pick8 .pick8 .ensures), (at-microseconds .microseconds .ensures),
-    (at-both2 .both2 .ensures), (at-pick7 .pick7 .ensures), (at-decimal2 .decimal2 .ensures), (at-between3 .between3 .ensures))
+    rw (
+      (at-phase2 .phase2 .given .1),
+      (c .pick9 .ensures),
+      (at-pick8 .pick8 .ensures),
+      (at-microseconds .microseconds .ensures),
+      (at-both2 .both2 .ensures),
+      (at-pick7 .pick7 .ensures),
+      (at-decimal2 .decimal2 .ensures),
+      (at-between3 .between3 .ensures),
+    )
 
 returns-5 : tie.Need-returns-5
 unfolding after
@@ -326,8 +342,14 @@ returns-8 c =
     let at-worth = at-wide .before in
     let at-is-hex = at-worth .before in
     let at-phase6 = at-is-hex .before .before in
-    rw ((at-phase6 .phase6 .given .1), (c .pick16 .ensures), (at-pick15 .pick15 .ensures), (at-is-hex .is-hex .ensures), (at-wide .wide .ensures .0),
-    (at-worth .worth .ensures .0))
+    rw (
+      (at-phase6 .phase6 .given .1),
+      (c .pick16 .ensures),
+      (at-pick15 .pick15 .ensures),
+      (at-is-hex .is-hex .ensures),
+      (at-wide .wide .ensures .0),
+      (at-worth .worth .ensures .0),
+    )
 
 returns-9 : tie.Need-returns-9
 unfolding after
@@ -340,8 +362,17 @@ returns-9 c =
     let at-hexadecimal = at-pick17 .before in
     let at-is-hex2 = at-hexadecimal .before in
     let at-phase7 = at-is-hex2 .before .before in
-    rw ((at-phase7 .phase7 .given .1), (c .pick19 .ensures), (at-pick18 .pick18 .ensures), (at-can-id .can-id .ensures), (at-both3 .both3 .ensures),
-    (at-is-identifier .is-identifier .ensures), (at-pick17 .pick17 .ensures), (at-hexadecimal .hexadecimal .ensures), (at-is-hex2 .is-hex2 .ensures))
+    rw (
+      (at-phase7 .phase7 .given .1),
+      (c .pick19 .ensures),
+      (at-pick18 .pick18 .ensures),
+      (at-can-id .can-id .ensures),
+      (at-both3 .both3 .ensures),
+      (at-is-identifier .is-identifier .ensures),
+      (at-pick17 .pick17 .ensures),
+      (at-hexadecimal .hexadecimal .ensures),
+      (at-is-hex2 .is-hex2 .ensures),
+    )
 
 returns-10 : tie.Need-returns-10
 unfolding after
@@ -356,9 +387,19 @@ returns-10 c =
     let at-worth2 = at-pick20 .before in
     let at-is-hex3 = at-worth2 .before in
     let at-phase8 = at-is-hex3 .before .before in
-    rw ((at-phase8 .phase8 .given .1), (c .pick24 .ensures), (at-pick23 .pick23 .ensures), (at-pick22 .pick22 .ensures), (at-pick21 .pick21 .ensures),
-    (at-both5 .both5 .ensures), (at-both4 .both4 .ensures), (at-classic-found .classic-found .ensures), (at-pick20 .pick20 .ensures),
-    (at-worth2 .worth2 .ensures .0), (at-is-hex3 .is-hex3 .ensures))
+    rw (
+      (at-phase8 .phase8 .given .1),
+      (c .pick24 .ensures),
+      (at-pick23 .pick23 .ensures),
+      (at-pick22 .pick22 .ensures),
+      (at-pick21 .pick21 .ensures),
+      (at-both5 .both5 .ensures),
+      (at-both4 .both4 .ensures),
+      (at-classic-found .classic-found .ensures),
+      (at-pick20 .pick20 .ensures),
+      (at-worth2 .worth2 .ensures .0),
+      (at-is-hex3 .is-hex3 .ensures),
+    )
 
 returns-11 : tie.Need-returns-11
 unfolding after
@@ -383,8 +424,14 @@ returns-13 c =
     let at-pick28 = at-both6 .before in
     let at-is-hex5 = at-pick28 .before in
     let at-phase11 = at-is-hex5 .before .before in
-    rw ((at-phase11 .phase11 .given .1), (c .pick30 .ensures), (at-pick29 .pick29 .ensures), (at-both6 .both6 .ensures), (at-pick28 .pick28 .ensures),
-    (at-is-hex5 .is-hex5 .ensures))
+    rw (
+      (at-phase11 .phase11 .given .1),
+      (c .pick30 .ensures),
+      (at-pick29 .pick29 .ensures),
+      (at-both6 .both6 .ensures),
+      (at-pick28 .pick28 .ensures),
+      (at-is-hex5 .is-hex5 .ensures),
+    )
 
 returns-14 : tie.Need-returns-14
 unfolding after

@@ -26,8 +26,13 @@ returns c =
     let at-either = at-between3 .before in
     let at-between2 = at-either .before in
     let at-between = at-between2 .before in
-    rw ((c .either2 .ensures), (at-either .either .ensures), (at-between .between .ensures), (at-between2 .between2 .ensures),
-    (at-between3 .between3 .ensures))
+    rw (
+      (c .either2 .ensures),
+      (at-either .either .ensures),
+      (at-between .between .ensures),
+      (at-between2 .between2 .ensures),
+      (at-between3 .between3 .ensures),
+    )
 
 pub is-hex-spec : {M : Type 1} → statement M
 is-hex-spec =

@@ -85,7 +85,8 @@ returns-3 c =
     first-begun (start .args .joiner) (start .args .frame .now) (start .args .buffer .now) (start .pre) (at-byte-at .byte-at .result)
     (at-wide2 .wide2 .result) _ (at-byte-at .byte-at .ensures)
     ((at-wide2 .wide2 .ensures .0) ∙ (at-byte-at2 .byte-at2 .ensures))
-    (ap (λ (n : ℕ). n * 256 + (at-wide2 .wide2 .result)) (at-wide .wide .ensures .0)) (at-wide2 .wide2 .ensures .1) (at-if1 .if1 .left) (at-if2 .if2 .left) (at-part .part .ensures)
+    (ap (λ (n : ℕ). n * 256 + (at-wide2 .wide2 .result)) (at-wide .wide .ensures .0)) (at-wide2 .wide2 .ensures .1) (at-if1 .if1 .left)
+    (at-if2 .if2 .left) (at-part .part .ensures)
     (at-copy-into .copy-into .ensures)
 
 pub first-spec : {M : Type 1} → statement M

@@ -1,25 +1,20 @@
+-- `text::beside` meets its contract.
 use borrow.Author.Needs.{needs}
 use Rattle.text.proofs.Numerals.{no-bytes, some-bytes}
 use Rattle.text.proofs.beside.Statement.{statement}
 use Rattle.text.proofs.beside.Tie as tie
-use Rattle.text.proofs.beside.Reads as reads
-use Rattle.text.proofs.beside.Lts as lts
 
--- src/lib.rt:200:21
 add-result : tie.Need-add-result
 add-result c = search needs
 
--- src/lib.rt:200:41
 add-result-2 : tie.Need-add-result-2
 add-result-2 c = search needs
 
--- src/lib.rt:196:1
 returns : tie.Need-returns
 returns c =
     let start = c .before in
     no-bytes (start .args .bytes) (start .args .digits) (c .if1 .taken)
 
--- src/lib.rt:196:1
 returns-2 : tie.Need-returns-2
 returns-2 c =
     let start = c .before in

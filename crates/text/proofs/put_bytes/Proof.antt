@@ -1,3 +1,4 @@
+-- `text::put_bytes` meets its contract.
 use borrow.Author.Needs.{needs}
 use Rattle.text.proofs.Writing.{then, none}
 use Rattle.text.proofs.Numerals.{behind-none, behind-some}
@@ -8,37 +9,33 @@ use mathlib.Core.List.{List}
 use Prim.Native.Nat.{ℕ}
 use Rattle.text.proofs.put_bytes.Statement.{statement}
 use Rattle.text.proofs.put_bytes.Tie as tie
-use Rattle.text.proofs.put_bytes.Reads as reads
-use Rattle.text.proofs.put_bytes.Lts as lts
-use Rattle.text.proofs.put_byte.Reads as put-byte-reads
-use Rattle.text.proofs.put_hex.Reads as put-hex-reads
 
--- src/lib.rt:188:9
 returns : tie.Need-returns
 returns c =
     let start = c .before .before .before in
     rw (behind-none (start .args .bytes .now) (c .if1 .taken)) (none (start .args .line .now) (start .args .at))
 
--- src/lib.rt:190:9
 put-byte-requires : tie.Need-put-byte-requires
 put-byte-requires c κs =
     let at-if1 = c .before in
     let start = at-if1 .before .before .before in
     omega (arith, (start .pre), ap (length {A = ℕ}) (behind-some (start .args .bytes .now) (at-if1 .if1 .left)))
 
--- src/lib.rt:191:5
 put-hex-requires : tie.Need-put-hex-requires
 put-hex-requires c κs =
     let at-put-byte = c .before .before .before in
     let at-if1 = at-put-byte .before .before in
     let start = at-if1 .before .before .before in
-    omega (arith, (start .pre), ap (length {A = ℕ}) (behind-some (start .args .bytes .now) (at-if1 .if1 .left)), (at-put-byte .put-byte .ensures .next))
+    omega (
+      arith,
+      (start .pre),
+      ap (length {A = ℕ}) (behind-some (start .args .bytes .now) (at-if1 .if1 .left)),
+      (at-put-byte .put-byte .ensures .next),
+    )
 
--- src/lib.rt:183:1
 same-length : tie.Need-same-length
 same-length c = search needs
 
--- src/lib.rt:183:1
 returns-2 : tie.Need-returns-2
 returns-2 c =
     let at-put-hex = c .before .before in

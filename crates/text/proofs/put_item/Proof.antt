@@ -1,3 +1,4 @@
+-- `text::put_item` meets its contract.
 use borrow.Author.Needs.{needs}
 use Rattle.text.proofs.Writing.{then, not-appended, appended}
 use Rattle.text.proofs.Numerals.{item-fits, item-full, item-length, behind-length}
@@ -7,39 +8,25 @@ use lib.ListN.{length}
 use native.Mathlib.Omega.{arith}
 use Rattle.text.proofs.put_item.Statement.{statement}
 use Rattle.text.proofs.put_item.Tie as tie
-use Rattle.text.proofs.put_item.Reads as reads
-use Rattle.text.proofs.put_item.Lts as lts
-use Rattle.text.proofs.beside.Reads as beside-reads
-use Rattle.text.proofs.decimal_length.Reads as decimal-length-reads
-use Rattle.text.proofs.fits.Reads as fits-reads
-use Rattle.text.proofs.put_byte.Reads as put-byte-reads
-use Rattle.text.proofs.put_bytes.Reads as put-bytes-reads
-use Rattle.text.proofs.put_number.Reads as put-number-reads
-use Rattle.text.proofs.put_word.Reads as put-word-reads
 
--- src/lib.rt:209:9
 returns : tie.Need-returns
 returns c =
     let start = c .before .before .before .before in
-    not-appended (item (start .args .word .now) (start .args .number) (start .args .bytes .now)) (start .args .line .now) (start .args .at) (omega (arith, (c .if1 .taken)))
+    not-appended (item (start .args .word .now) (start .args .number) (start .args .bytes .now)) (start .args .line .now) (start .args .at)
+    (omega (arith, (c .if1 .taken)))
 
--- src/lib.rt:211:26
 decimal-length-requires : tie.Need-decimal-length-requires
 decimal-length-requires c κs = search needs
 
--- src/lib.rt:211:9
 beside-requires : tie.Need-beside-requires
 beside-requires c κs = search needs
 
--- src/lib.rt:212:14
 sub-fits : tie.Need-sub-fits
 sub-fits c = search needs
 
--- src/lib.rt:212:9
 fits-requires : tie.Need-fits-requires
 fits-requires c κs = search needs
 
--- src/lib.rt:213:9
 returns-2 : tie.Need-returns-2
 returns-2 c =
     let at-fits2 = c .before in
@@ -48,10 +35,10 @@ returns-2 c =
     let at-if1 = at-decimal-length .before in
     let start = at-if1 .before .before .before .before in
     not-appended (item (start .args .word .now) (start .args .number) (start .args .bytes .now)) (start .args .line .now) (start .args .at)
-    (item-full (start .args .word .now) (start .args .bytes .now) (start .args .number) (start .args .at) (length (start .args .line .now)) (at-beside .beside .result) (at-decimal-length .decimal-length .result) (at-decimal-length .decimal-length .ensures .0)
+    (item-full (start .args .word .now) (start .args .bytes .now) (start .args .number) (start .args .at) (length (start .args .line .now))
+    (at-beside .beside .result) (at-decimal-length .decimal-length .result) (at-decimal-length .decimal-length .ensures .0)
     (at-beside .beside .ensures) (at-if1 .if1 .left) (at-fits2 .fits2 .ensures) (c .if2 .taken))
 
--- src/lib.rt:215:9
 put-word-requires : tie.Need-put-word-requires
 put-word-requires c κs =
     let at-if2 = c .before in
@@ -62,11 +49,11 @@ put-word-requires c κs =
     let start = at-if1 .before .before .before .before in
     omega (
       arith,
-      item-fits (start .args .word .now) (start .args .bytes .now) (start .args .number) (start .args .at) (length (start .args .line .now)) (at-beside .beside .result) (at-decimal-length .decimal-length .result) (at-decimal-length .decimal-length .ensures .0)
+      item-fits (start .args .word .now) (start .args .bytes .now) (start .args .number) (start .args .at) (length (start .args .line .now))
+          (at-beside .beside .result) (at-decimal-length .decimal-length .result) (at-decimal-length .decimal-length .ensures .0)
           (at-beside .beside .ensures) (at-if1 .if1 .left) (at-fits2 .fits2 .ensures) (at-if2 .if2 .left),
     )
 
--- src/lib.rt:216:9
 put-number-requires : tie.Need-put-number-requires
 put-number-requires c κs =
     let at-put-word = c .before .before .before in
@@ -79,11 +66,11 @@ put-number-requires c κs =
     omega (
       arith,
       (at-put-word .put-word .ensures .next),
-      item-fits (start .args .word .now) (start .args .bytes .now) (start .args .number) (start .args .at) (length (start .args .line .now)) (at-beside .beside .result) (at-decimal-length .decimal-length .result) (at-decimal-length .decimal-length .ensures .0)
+      item-fits (start .args .word .now) (start .args .bytes .now) (start .args .number) (start .args .at) (length (start .args .line .now))
+          (at-beside .beside .result) (at-decimal-length .decimal-length .result) (at-decimal-length .decimal-length .ensures .0)
           (at-beside .beside .ensures) (at-if1 .if1 .left) (at-fits2 .fits2 .ensures) (at-if2 .if2 .left),
     )
 
--- src/lib.rt:217:9
 put-bytes-requires : tie.Need-put-bytes-requires
 put-bytes-requires c κs =
     let at-put-number = c .before .before .before in
@@ -98,11 +85,11 @@ put-bytes-requires c κs =
       arith,
       (at-put-word .put-word .ensures .next),
       (at-put-number .put-number .ensures .next),
-      item-fits (start .args .word .now) (start .args .bytes .now) (start .args .number) (start .args .at) (length (start .args .line .now)) (at-beside .beside .result) (at-decimal-length .decimal-length .result) (at-decimal-length .decimal-length .ensures .0)
+      item-fits (start .args .word .now) (start .args .bytes .now) (start .args .number) (start .args .at) (length (start .args .line .now))
+          (at-beside .beside .result) (at-decimal-length .decimal-length .result) (at-decimal-length .decimal-length .ensures .0)
           (at-beside .beside .ensures) (at-if1 .if1 .left) (at-fits2 .fits2 .ensures) (at-if2 .if2 .left),
     )
 
--- src/lib.rt:218:5
 put-byte-requires : tie.Need-put-byte-requires
 put-byte-requires c κs =
     let at-put-bytes = c .before .before .before in
@@ -119,15 +106,14 @@ put-byte-requires c κs =
       (at-put-word .put-word .ensures .next),
       (at-put-number .put-number .ensures .next),
       (at-put-bytes .put-bytes .ensures .next),
-      item-fits (start .args .word .now) (start .args .bytes .now) (start .args .number) (start .args .at) (length (start .args .line .now)) (at-beside .beside .result) (at-decimal-length .decimal-length .result) (at-decimal-length .decimal-length .ensures .0)
+      item-fits (start .args .word .now) (start .args .bytes .now) (start .args .number) (start .args .at) (length (start .args .line .now))
+          (at-beside .beside .result) (at-decimal-length .decimal-length .result) (at-decimal-length .decimal-length .ensures .0)
           (at-beside .beside .ensures) (at-if1 .if1 .left) (at-fits2 .fits2 .ensures) (at-if2 .if2 .left),
     )
 
--- src/lib.rt:205:1
 same-length : tie.Need-same-length
 same-length c = search needs
 
--- src/lib.rt:205:1
 returns-3 : tie.Need-returns-3
 unfolding item
 returns-3 c =
@@ -141,14 +127,22 @@ returns-3 c =
     let at-decimal-length = at-beside .before in
     let at-if1 = at-decimal-length .before in
     let start = at-if1 .before .before .before .before in
-    let fit = item-fits (start .args .word .now) (start .args .bytes .now) (start .args .number) (start .args .at) (length (start .args .line .now)) (at-beside .beside .result) (at-decimal-length .decimal-length .result) (at-decimal-length .decimal-length .ensures .0)
+    let fit = item-fits (start .args .word .now) (start .args .bytes .now) (start .args .number) (start .args .at) (length (start .args .line .now))
+    (at-beside .beside .result) (at-decimal-length .decimal-length .result) (at-decimal-length .decimal-length .ensures .0)
     (at-beside .beside .ensures) (at-if1 .if1 .left) (at-fits2 .fits2 .ensures) (at-if2 .if2 .left) in
     let w = (at-put-word .put-word .ensures) in
     let n = (at-put-number .put-number .ensures) in
     let b = (at-put-bytes .put-bytes .ensures) in
     appended (item (start .args .word .now) (start .args .number) (start .args .bytes .now)) (start .args .line .now) (start .args .at)
-    (omega (arith, fit, item-length (start .args .word .now) (start .args .bytes .now) (start .args .number), behind-length (start .args .bytes .now)))
-    (then (omega (arith, fit, w .next, n .next, b .next)) (then (omega (arith, fit, w .next, n .next)) (then (omega (arith, fit, w .next)) w n) b) (at-put-byte .put-byte .ensures))
+    (omega (
+      arith,
+      fit,
+      item-length (start .args .word .now) (start .args .bytes .now) (start .args .number),
+      behind-length
+          (start .args .bytes .now),
+    ))
+    (then (omega (arith, fit, w .next, n .next, b .next)) (then (omega (arith, fit, w .next, n .next)) (then (omega (arith, fit, w .next)) w n) b)
+    (at-put-byte .put-byte .ensures))
 
 pub put-item-spec : {M : Type 1} → statement M
 put-item-spec =
