@@ -1,1 +1,3 @@
 -- What follows of the definitions.
+pub mod Overflows
+pub mod Imports

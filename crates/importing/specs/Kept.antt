@@ -42,11 +42,14 @@ noteRequest room n time m t = tally (some time) (t .events) (t .bytes) (t .drops
 abbrev pub fitsIn : ℕ → ℕ → ℕ → ℕ → Bool
 fitsIn events bytes ms size = ltb events 512 && leb ms 4294967295 && leb (bytes + size) 65535
 
+abbrev pub replied : ℕ → ℕ → List ℕ → Tally → Tally
+replied room ms m t = tally (t .start) (t .events + 1) (t .bytes + length m) (t .drops) (t .over) (append room (t .text) (item (ascii "reply") ms m))
+
+abbrev pub overflowed : Tally → Tally
+overflowed t = tally (t .start) (t .events) (t .bytes) (t .drops) true (t .text)
+
 abbrev pub noteReply : ℕ → ℕ → List ℕ → Tally → Tally
-noteReply room ms m t =
-    cond (fitsIn (t .events) (t .bytes) ms (length m))
-    (tally (t .start) (t .events + 1) (t .bytes + length m) (t .drops) (t .over) (append room (t .text) (item (ascii "reply") ms m)))
-    (tally (t .start) (t .events) (t .bytes) (t .drops) true (t .text))
+noteReply room ms m t = cond (fitsIn (t .events) (t .bytes) ms (length m)) (replied room ms m t) (overflowed t)
 
 abbrev pub noteGiven : ℕ → Option ℕ → ℕ → ℕ → Option (List ℕ) → Option (List ℕ) → Tally → Tally
 noteGiven room none n time none answered t = t

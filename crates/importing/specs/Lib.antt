@@ -2,3 +2,4 @@
 pub mod Texts
 pub mod Import
 pub mod Kept
+pub mod Promises

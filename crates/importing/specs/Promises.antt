@@ -1,0 +1,38 @@
+-- What is promised of what is kept: byte by byte, in bounded memory, it is what request Eight asks for.
+use Prim.Native.Nat.{ℕ}
+use mathlib.Core.Bool.{Bool, false, not}
+use mathlib.Core.List.{List, [], _∷_}
+use mathlib.Core.Option.{Option, none}
+use mathlib.Core.Path.{_≡_}
+use Rattle.rules.specs.Lines.{ascii}
+use Rattle.text.specs.Written.{item}
+use Rattle.importing.specs.Import as import
+use Rattle.importing.specs.Import.{Item, request, reply, dropped, Imported, within, imported}
+use Rattle.importing.specs.Kept.{Tally, tally, append, noteDrop, noteReply, Written, refusedLine, refused, lines, start, bytes, ended}
+
+-- What is told is kept item by item.
+abbrev pub tell : ℕ → Tally → Item → Tally
+tell room t (request n m) = tally (t .start) (t .events) (t .bytes) (t .drops) (t .over) (append room (t .text) (item (ascii "request") n m))
+tell room t (reply ms m) = noteReply room ms m t
+tell room t (dropped n) = noteDrop room n t
+
+unfoldable pub tells : ℕ → Tally → List Item → Tally
+tells room t [] = t
+tells room t (x ∷ xs) = tells room (tell room t x) xs
+
+abbrev pub nothing : Tally
+nothing = tally none 0 0 0 false []
+
+-- The lines of what is told.
+abbrev pub written : ℕ → Imported → Written
+written room (import.refusedLine n line) = refusedLine n line
+written room (import.refused n) = refused n
+written room (import.told is) = lines (tells room nothing is .text)
+
+-- For every text, however it comes in pieces: the definition's result, with its refusals in their order.
+abbrev pub Imports : Type 0
+Imports = (room ask answer : ℕ) (text : List ℕ) → ended room ask answer (bytes room ask answer start text) ≡ written room (imported ask answer text)
+
+-- Refusal 17 is due as soon as a reply does not fit, and only then.
+abbrev pub Overflows : Type 0
+Overflows = (room : ℕ) (is : List Item) → tells room nothing is .over ≡ not (within is)
