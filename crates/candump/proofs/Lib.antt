@@ -2,3 +2,4 @@
 pub mod Grammar
 pub mod Phases
 pub mod Reading
+pub mod Rows

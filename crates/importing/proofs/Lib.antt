@@ -1,3 +1,4 @@
 -- What follows of the definitions.
 pub mod Overflows
 pub mod Imports
+pub mod Rows

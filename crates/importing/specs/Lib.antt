@@ -3,3 +3,4 @@ pub mod Texts
 pub mod Import
 pub mod Kept
 pub mod Promises
+pub mod Rows
