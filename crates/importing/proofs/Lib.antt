@@ -2,3 +2,4 @@
 pub mod Overflows
 pub mod Imports
 pub mod Rows
+pub mod Rises

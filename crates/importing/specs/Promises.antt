@@ -1,6 +1,7 @@
 -- What is promised of what is kept: byte by byte, in bounded memory, it is what request Eight asks for.
 use Prim.Native.Nat.{ℕ}
-use mathlib.Core.Bool.{Bool, false, not}
+use mathlib.Core.Bool.{Bool, true, false, not, _&&_}
+use lib.Dec.{leb}
 use mathlib.Core.List.{List, [], _∷_}
 use mathlib.Core.Option.{Option, none}
 use mathlib.Core.Path.{_≡_}
@@ -36,3 +37,17 @@ Imports = (room ask answer : ℕ) (text : List ℕ) → ended room ask answer (b
 -- Refusal 17 is due as soon as a reply does not fit, and only then.
 abbrev pub Overflows : Type 0
 Overflows = (room : ℕ) (is : List Item) → tells room nothing is .over ≡ not (within is)
+
+-- The times of the events never fall.
+abbrev pub rises : ℕ → List Item → Bool
+rises t [] = true
+rises t (request n m ∷ is) = rises t is
+rises t (dropped n ∷ is) = rises t is
+rises t (reply u m ∷ is) = leb t u && rises u is
+
+abbrev pub Rises : Type 0
+Rises = (ask answer : ℕ) (text : List ℕ) (is : List Item) → imported ask answer text ≡ import.told is → rises 0 is ≡ true
+
+-- At most 512 events, none above document 01's limit, and at most 65,535 reply bytes.
+abbrev pub Limited : Type 0
+Limited = (ask answer : ℕ) (text : List ℕ) (is : List Item) → imported ask answer text ≡ import.told is → within is ≡ true
