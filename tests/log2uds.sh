@@ -43,8 +43,20 @@ lines() { (yes '(1.000000) can0 123#DEADBEEF' | head -n 1000000; echo '(2.000000
 try "log2uds: a million lines before the request" 0 "request 1000001 01" "" lines
 pieces() { (printf '(1.000000) c 7E0#' && sleep 0.2 && printf '0101\r') | ./log2uds 7E0 7E8; }
 try "log2uds: a pipe fed in pieces, and no last LF" 0 "request 1 01" "" pieces
-drops() { (echo '(1.000000) c 7E0#0101' && for _ in {1..5000}; do printf '(2.000000) c 7E8#1008010203040506\n'; done) | ./log2uds 7E0 7E8 | grep -c dropped; }
-try "log2uds: the first 4,096 messages that were given up" 0 "4096" "" drops
+given_up() { # given_up COUNT LINE: a request, so many messages that are begun, and a line behind them
+    echo '(1.000000) c 7E0#0101'
+    yes '(2.000000) c 7E8#1008010203040506' | head -n "$1" || true
+    echo "$2"
+}
+drops() { # drops COUNT: so many messages are given up, the last for a whole reply
+    given_up "$1" '(3.000000) c 7E8#0102' | ./log2uds 7E0 7E8 >"$room/told"
+    echo "$(grep -c dropped "$room/told") $(tail -n 1 "$room/told")"
+}
+try "log2uds: 4,096 messages that were given up" 0 "4096 reply 2000 02" "" drops 4096
+try "log2uds: one more is left out, and told by its number" 0 "4096 reply 2000 02" "log2uds: 'dropped' lines left out: 1" drops 4097
+try "log2uds: and so are a thousand" 0 "4096 reply 2000 02" "log2uds: 'dropped' lines left out: 1000" drops 5096
+refused_drops() { given_up 5000 x | ./log2uds 7E0 7E8; }
+try "log2uds: under a refusal they are not told" 3 "refused 14 5002" "" refused_drops
 
 # Identifiers.
 try "log2uds: identifiers of 29 bits, of either case" 0 $'request 1 01\nreply 0 02' "" text '(1.000000) c 18da10f1#0101\n(1.000000) c 18DAF110#0102\n' 18DA10f1 18daF110

@@ -130,14 +130,14 @@ module _ (room ask answer : ℕ) where
   same-judged (import.refusedAt n line) = refl
   same-judged (import.going k) = go (k .start)
     where
-      by-limits : (b : Bool) → cond (not b) (refused 17) (lines (tells room nothing (k .told) .text)) ≡ written room (cond b (import.told (k .told)) (import.refused 17))
+      by-limits : (b : Bool) → cond (not b) (refused 17) (lines (tells room nothing (k .told) .text) (tells room nothing (k .told) .drops - 4096)) ≡ written room (cond b (import.told (k .told)) (import.refused 17))
       by-limits true = refl
       by-limits false = refl
 
       go : (s : Option ℕ) → judged (going (kept (k .line) (k .time) (k .asking) (k .answering) (startedWith s (tells room nothing (k .told))))) ≡
           written room (import.judged (import.going (record { line = k .line; time = k .time; asking = k .asking; answering = k .answering; start = s; told = k .told })))
       go none = refl
-      go (some t) = ap (λ (b : Bool). cond b (refused 17) (lines (tells room nothing (k .told) .text))) (overflows room (k .told)) ∙ by-limits (within (k .told))
+      go (some t) = ap (λ (b : Bool). cond b (refused 17) (lines (tells room nothing (k .told) .text) (tells room nothing (k .told) .drops - 4096))) (overflows room (k .told)) ∙ by-limits (within (k .told))
 
 pub imports : Imports
 unfolding imported reading.readOn tells

@@ -124,7 +124,8 @@ bytes room ask answer s (c ∷ t) = bytes room ask answer (byte room ask answer 
 pub data Written : Type 0 where
   refusedLine : ℕ → ℕ → Written
   refused : ℕ → Written
-  lines : List ℕ → Written
+  -- The lines, and how many `dropped` lines are left out of them.
+  lines : List ℕ → ℕ → Written
 
 abbrev pub judged : Going → Written
 judged (refusedAt n at) = refusedLine n at
@@ -132,7 +133,7 @@ judged (going k) = requested (k .tally .start)
   where
     requested : Option ℕ → Written
     requested none = refused 15
-    requested (some t) = cond (k .tally .over) (refused 17) (lines (k .tally .text))
+    requested (some t) = cond (k .tally .over) (refused 17) (lines (k .tally .text) (k .tally .drops - 4096))
 
 -- "Bytes after the last LF are a line unless there are none": one without bytes is blank, and blank lines tell nothing.
 unfoldable pub ended : ℕ → ℕ → ℕ → Stream → Written

@@ -1,5 +1,5 @@
 -- What is promised of what is kept: byte by byte, in bounded memory, it is what request Eight asks for.
-use Prim.Native.Nat.{ℕ}
+use Prim.Native.Nat.{ℕ, _-_}
 use mathlib.Core.Bool.{Bool, true, false, not, _&&_}
 use lib.Dec.{leb}
 use mathlib.Core.List.{List, [], _∷_}
@@ -24,11 +24,11 @@ tells room t (x ∷ xs) = tells room (tell room t x) xs
 abbrev pub nothing : Tally
 nothing = tally none 0 0 0 false []
 
--- The lines of what is told.
+-- The lines of what is told, and how many `dropped` lines are left out: those behind the first 4,096.
 abbrev pub written : ℕ → Imported → Written
 written room (import.refusedLine n line) = refusedLine n line
 written room (import.refused n) = refused n
-written room (import.told is) = lines (tells room nothing is .text)
+written room (import.told is) = let t = tells room nothing is in lines (t .text) (t .drops - 4096)
 
 -- For every text, however it comes in pieces: the definition's result, with its refusals in their order.
 abbrev pub Imports : Type 0

@@ -62,7 +62,7 @@ module _ (out after bs : List ℕ) (at r : ℕ) (inside : at ≤ length out) (p 
         room = x .same;
       }
 
-take-inside : (at : ℕ) (l : List ℕ) → take (min at (length l)) l ≡ take at l
+pub take-inside : (at : ℕ) (l : List ℕ) → take (min at (length l)) l ≡ take at l
 take-inside at l = go (leb at (length l)) refl
   where
     go : (b : Bool) → leb at (length l) ≡ b → take (min at (length l)) l ≡ take at l

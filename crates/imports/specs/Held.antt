@@ -1,5 +1,5 @@
 -- How the code holds what is kept: numbers in structs, bytes in lent buffers.
-use Prim.Native.Nat.{ℕ, _+_}
+use Prim.Native.Nat.{ℕ, _+_, _≤_}
 use mathlib.Core.Bool.{Bool, true, false, cond, _&&_}
 use mathlib.Core.List.{List}
 use mathlib.Core.Option.{Option, none, some}
@@ -48,4 +48,15 @@ Begins s = (asked answered out : List ℕ) → streamOf s asked answered out ≡
 abbrev pub writtenOf : Outcome → List ℕ → Written
 writtenOf (Refused n) out = refused n
 writtenOf (RefusedAt n line) out = refusedLine n line
-writtenOf (Lines n) out = lines (take n out)
+writtenOf (Lines n left) out = lines (take n out) left
+
+-- The lines stand inside the buffer.
+abbrev pub Inside : Outcome → List ℕ → Type 0
+Inside (Refused n) out = Unit {0}
+Inside (RefusedAt n line) out = Unit {0}
+Inside (Lines n left) out = n ≤ length out
+
+-- What is written, and that it stands inside the buffer: this determines the answer.
+pub record Finished (want : Written) (r : Outcome) (out : List ℕ) : Type 0 where
+  pub says : writtenOf r out ≡ want
+  pub inside : Inside r out

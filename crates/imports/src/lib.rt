@@ -15,7 +15,7 @@ ghost use Rattle.isotp.specs.Held.{givenOf};
 ghost use Rattle.candump.specs.Reading.{lineOf};
 ghost use Rattle.importing.specs.Import.{next};
 ghost use Rattle.importing.specs.Kept.{noteDrop, noteRequest, noteReply, noteGiven, fitsIn, framed, step, readLine, byte, bytes, ended};
-ghost use Rattle.imports.specs.Held.{startOf, tallyOf, keptOf, goingOf, streamOf, writtenOf, Begins, Tallied};
+ghost use Rattle.imports.specs.Held.{startOf, tallyOf, keptOf, goingOf, streamOf, Begins, Tallied, Finished};
 
 // Of the lines at which a message was given up, so many are kept.
 const MOST_DROPS: u64 = 4096;
@@ -58,11 +58,12 @@ pub struct Import {
     pub tally: Tally,
 }
 
-// What a text comes to: refusal 15 or 17; refusal 14 or 16 of a line; or how many bytes of lines stand at the front of the lent buffer.
+// What a text comes to: refusal 15 or 17; refusal 14 or 16 of a line; or how many bytes of lines stand at the front of the lent buffer, and how
+// many `dropped` lines are left out of them.
 pub enum Outcome {
     Refused(u8),
     RefusedAt(u8, u64),
-    Lines(usize),
+    Lines(usize, u64),
 }
 
 // How far a text was read: the line under way, and the lines before it.
@@ -442,6 +443,16 @@ pub fn read_on(
     r
 }
 
+// Of so many lines at which a message was given up, those that are not kept.
+fn left_out(drops: u64) -> u64
+    ensures { λ r. ⌜ r ≡ drops - 4096 ⌝ }
+{
+    if drops < MOST_DROPS {
+        return 0;
+    }
+    drops - MOST_DROPS
+}
+
 // The text ends here: "14 and 16 as the lines come, then 15, then 17".
 pub fn finish(
     s: Stream,
@@ -451,7 +462,7 @@ pub fn finish(
     answered: &mut [u8; 4095],
     out: &mut [u8],
 ) -> Outcome
-    ensures { λ r. ⌜ writtenOf r (now (out .exit)) ≡ ended (length (now (out .entry))) ask answer (streamOf s (now (asked .entry)) (now (answered .entry)) (now (out .entry))) ⌝ }
+    ensures { λ r. ⌜ Finished (ended (length (now (out .entry))) ask answer (streamOf s (now (asked .entry)) (now (answered .entry)) (now (out .entry)))) r (now (out .exit)) ⌝ }
 {
     let import = line_ends(s, ask, answer, asked, answered, out);
     let tally = import.tally;
@@ -465,7 +476,7 @@ pub fn finish(
             if tally.over {
                 return Outcome::Refused(17);
             }
-            Outcome::Lines(tally.size)
+            Outcome::Lines(inside(tally.size, out), left_out(tally.drops))
         }
     }
 }

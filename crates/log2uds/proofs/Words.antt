@@ -39,10 +39,9 @@ front out after bs r p =
     rw (p .line) (take-at bs (drop (0 + length bs) out) r (sym end))
 
 module _ (out : List ℕ) (room : 60 ≤ length out) where
-  pub told : (n r : ℕ) (after : List ℕ) → n < 2 ^ 64 → Appended (item (ascii "refused") n []) out 0 r after → take r after ≡ item (ascii "refused") n []
-  told n r after small p =
-      front out after (item (ascii "refused") n []) r
-      (was-put (item (ascii "refused") n []) out 0 (omega (arith, item-length (ascii "refused") [] n, long n small)) p)
+  pub told : (word : List ℕ) (n r : ℕ) (after : List ℕ) → length word ≤ 38 → n < 2 ^ 64 → Appended (item word n []) out 0 r after → take r after ≡ item word n []
+  told word n r after short small p =
+      front out after (item word n []) r (was-put (item word n []) out 0 (omega (arith, item-length word [] n, long n small)) p)
 
   pub told-line : (n line r s : ℕ) (m after : List ℕ) → n < 2 ^ 64 → line < 2 ^ 64 → length m ≡ length out → Appended (counted (ascii "refused") n) out 0 r m →
       Appended (item [] line []) m r s after → take s after ≡ counted (ascii "refused") n ++ item [] line []

@@ -16,7 +16,7 @@ ghost use mathlib.Core.Path.{_≡_};
 ghost use lib.ListN.{length, take};
 ghost use Rattle.candump.specs.Reading.{readOn};
 ghost use Rattle.imports.specs.Held.{writtenOf};
-ghost use Rattle.log2uds.specs.Streams.{shown, identifierIn};
+ghost use Rattle.log2uds.specs.Streams.{shown, leftIn, reported, identifierIn};
 
 // The bytes of a line, from where it was read on.
 fn read_word(reader: Reader, word: &[u8]) -> Reader
@@ -52,8 +52,35 @@ fn put_outcome(outcome: Outcome, out: &mut [u8]) -> usize
             let n = put_counted(out, 0, b"refused", number as u64);
             put_item(out, n, b"", line, b"")
         }
-        Outcome::Lines(n) => n,
+        Outcome::Lines(n, _) => n,
     }
+}
+
+fn left_out(outcome: Outcome) -> u64
+    ensures { λ r. ⌜ r ≡ leftIn outcome ⌝ }
+{
+    match outcome {
+        Outcome::Refused(_) => 0,
+        Outcome::RefusedAt(_, _) => 0,
+        Outcome::Lines(_, left) => left,
+    }
+}
+
+// How many `dropped` lines are left out, as a line; nothing where none is.
+fn put_left_out(left: u64, out: &mut [u8]) -> usize
+    requires { ⌜ 60 ≤ length (now out) ⌝ }
+    ensures { λ r. ⌜ take r (now (out .exit)) ≡ reported left ⌝ }
+{
+    if left == 0 {
+        return 0;
+    }
+    put_item(out, 0, b"log2uds: 'dropped' lines left out:", left, b"")
+}
+
+fn report(outcome: Outcome) {
+    let mut said = [0u8; 60];
+    let n = put_left_out(left_out(outcome), &mut said);
+    io::write_all(STDERR_FILENO, part(&said, 0, n));
 }
 
 // How much of the text was read, and whether it has ended.
@@ -105,6 +132,7 @@ fn import(
         turns = turns_left(turns, turn.ended);
     }
     let outcome = imports::finish(s, ask, answer, asked, answered, out);
+    report(outcome);
     put_outcome(outcome, out)
 }
 

@@ -33,6 +33,9 @@ loop-again c = search needs
 finish-requires : tie.Need-finish-requires Inv-loop μ-loop
 finish-requires c κs = search needs
 
+report-requires : tie.Need-report-requires Inv-loop μ-loop
+report-requires c κs = search needs
+
 put-outcome-requires : tie.Need-put-outcome-requires Inv-loop μ-loop
 put-outcome-requires c κs = search needs
 
@@ -55,6 +58,7 @@ import-spec =
     loop-less
     loop-again
     finish-requires
+    report-requires
     put-outcome-requires
     same-length
     returns)

@@ -1,6 +1,7 @@
 -- `log2uds::put_outcome` meets its contract.
 use borrow.Author.Needs.{needs}
 use Rattle.log2uds.proofs.Words.{told, told-line}
+use Rattle.rules.specs.Lines.{ascii}
 use lib.ListN.{length}
 use mathlib.Core.Path.{ap}
 use native.Mathlib.Omega.{arith}
@@ -54,7 +55,7 @@ returns c =
     let at-put-item = c .before .before in
     let at-outcome = at-put-item .before .before .before .before .before in
     let start = at-outcome .before .before .before in
-    rw ((at-outcome .outcome .given .1)) (told (start .args .out .now) (start .pre) _ (at-put-item .put-item .result) _ (omega arith)
+    rw ((at-outcome .outcome .given .1)) (told (start .args .out .now) (start .pre) (ascii "refused") _ (at-put-item .put-item .result) _ (omega arith) (omega arith)
     (at-put-item .put-item .ensures))
 
 same-length-2 : tie.Need-same-length-2
