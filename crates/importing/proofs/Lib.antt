@@ -3,3 +3,4 @@ pub mod Overflows
 pub mod Imports
 pub mod Rows
 pub mod Rises
+pub mod Passes

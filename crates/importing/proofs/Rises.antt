@@ -105,7 +105,7 @@ module _ (ask answer : ℕ) where
   all-lines i (l ∷ ls) p = all-lines (step ask answer i (read l)) ls (one-line i (read l) p)
 
 -- Of what is told in the end.
-abbrev toldIn : Imported → List Item
+abbrev pub toldIn : Imported → List Item
 toldIn (refusedLine n line) = []
 toldIn (refused n) = []
 toldIn (told is) = is

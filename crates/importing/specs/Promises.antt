@@ -1,11 +1,15 @@
 -- What is promised of what is kept: byte by byte, in bounded memory, it is what request Eight asks for.
-use Prim.Native.Nat.{ℕ, _-_}
+use Prim.Native.Nat.{ℕ, _+_, _-_}
 use mathlib.Core.Bool.{Bool, true, false, not, _&&_}
 use lib.Dec.{leb}
-use mathlib.Core.List.{List, [], _∷_}
+use mathlib.Core.List.{List, [], _∷_, _++_}
 use mathlib.Core.Option.{Option, none}
 use mathlib.Core.Path.{_≡_}
+use lib.ListN.{length}
+use Rattle.rules.specs.Bytes.{every, isByte}
+use Rattle.rules.specs.Events.{plain, Entry, withinLimits}
 use Rattle.rules.specs.Lines.{ascii}
+use Rattle.rules.specs.Writing.{putEntries}
 use Rattle.text.specs.Written.{item}
 use Rattle.importing.specs.Import as import
 use Rattle.importing.specs.Import.{Item, request, reply, dropped, Imported, within, imported}
@@ -51,3 +55,24 @@ Rises = (ask answer : ℕ) (text : List ℕ) (is : List Item) → imported ask a
 -- At most 512 events, none above document 01's limit, and at most 65,535 reply bytes.
 abbrev pub Limited : Type 0
 Limited = (ask answer : ℕ) (text : List ℕ) (is : List Item) → imported ask answer text ≡ import.told is → within is ≡ true
+
+-- The events as a log has them, their replies one behind the other from an offset on,
+abbrev pub entriesFrom : ℕ → List Item → List Entry
+entriesFrom at [] = []
+entriesFrom at (request n m ∷ is) = entriesFrom at is
+entriesFrom at (dropped n ∷ is) = entriesFrom at is
+entriesFrom at (reply t m ∷ is) = record { time = t; kind = 0; offset = at; size = length m; source = 0 } ∷ entriesFrom (at + length m) is
+
+-- and these replies.
+abbrev pub repliesOf : List Item → List ℕ
+repliesOf [] = []
+repliesOf (request n m ∷ is) = repliesOf is
+repliesOf (dropped n ∷ is) = repliesOf is
+repliesOf (reply t m ∷ is) = m ++ repliesOf is
+
+-- "The events that come out always pass refusal 10": as the bytes of a log.
+abbrev pub Passes : Type 0
+Passes =
+    (ask answer : ℕ) (text : List ℕ) (is : List Item) → imported ask answer text ≡ import.told is →
+    let events = putEntries plain (entriesFrom 0 is) in
+    (every isByte events ≡ true) × (withinLimits plain events (repliesOf is) ≡ true)
