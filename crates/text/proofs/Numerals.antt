@@ -1,16 +1,16 @@
 -- Laws of the line's numerals.
-use Prim.Native.Nat.{ℕ, zero, suc, _+_, _*_, _/_, _%_, _^_, _≤_, _<_}
+use Prim.Native.Nat.{ℕ, zero, suc, _+_, _-_, _*_, _/_, _%_, _^_, _≤_, _<_}
 use native.Mathlib.Numerals.{add-one}
 use native.Mathlib.Omega.{arith}
-use mathlib.Core.Bool.{Bool, true, false, cond}
+use mathlib.Core.Bool.{Bool, true, false, cond, not}
 use mathlib.Core.List.{List, [], _∷_, _++_, append-assoc}
 use mathlib.Core.Path.{_≡_, refl, sym, _∙_, ap}
 use lib.Dec.{leb, ltb}
 use lib.ListN.{length, take, getD, length-append}
 use lib.Seq.{take-suc}
-use borrow.Author.Tests.{lt-ltb, le-ltb, ltb-true, ltb-false, le-leb, lt-leb}
+use borrow.Author.Tests.{lt-ltb, le-ltb, ltb-true, ltb-false, le-leb, lt-leb, leb-true, leb-false}
 use Rattle.rules.specs.Lines.{digit, decimalTo, decimal, hex, hexOrDash}
-use Rattle.text.specs.Written.{shown, text}
+use Rattle.text.specs.Written.{shown, text, behind, hexBehind, item}
 
 -- 10 ^ (k + 1): what k + 1 digits cannot say.
 abbrev pub limit : ℕ → ℕ
@@ -95,6 +95,56 @@ detail-some (x ∷ h) b e = hex-append (x ∷ h) b
 
 pub detail-length : (h b : List ℕ) → length (hexOrDash (h ++ b)) ≡ shown (length h + length b)
 detail-length h b = shown-length (h ++ b) ∙ ap shown (length-append h b)
+
+-- The length of a word, a number and bytes behind it, and the newline.
+pub behind-length : (bs : List ℕ) → length (hexBehind bs) ≡ behind (length bs)
+behind-length [] = refl
+behind-length (b ∷ bs) = omega (arith, hex-length bs)
+
+pub item-length : (word bs : List ℕ) (n : ℕ) → length (item word n bs) ≡ length word + (length (decimal n) + 2 + behind (length bs))
+unfolding item
+item-length word bs n = simp length-append (omega (arith, behind-length bs))
+
+pub behind-none : (bs : List ℕ) → length bs ≡ 0 → hexBehind bs ≡ []
+behind-none [] h = refl
+behind-none (b ∷ bs) h = absurd (omega arith)
+
+pub behind-some : (bs : List ℕ) → (length bs ≡ 0 → ⊥) → hexBehind bs ≡ 32 ∷ hex bs
+behind-some [] h = absurd (h refl)
+behind-some (b ∷ bs) h = refl
+
+pub no-bytes : (n digits : ℕ) → n ≡ 0 → digits + 1 + shown n ≡ digits + 2 + behind n
+no-bytes zero digits h = omega arith
+no-bytes (suc n) digits h = absurd (omega arith)
+
+pub some-bytes : (n digits : ℕ) → (n ≡ 0 → ⊥) → digits + 3 + shown n ≡ digits + 2 + behind n
+some-bytes zero digits h = absurd (h refl)
+some-bytes (suc n) digits h = omega arith
+
+not-false : (b : Bool) → not b ≡ false → b ≡ true
+not-false true e = refl
+not-false false e = sym e
+
+not-true : (b : Bool) → not b ≡ true → b ≡ false
+not-true true e = sym e
+not-true false e = refl
+
+-- Whether a line of these parts fits from index at on, by what `fits` says of the room behind it.
+module _ (word bs : List ℕ) (n at line numbers digits : ℕ) {t : Bool} (ed : digits ≡ length (decimal n))
+    (en : numbers + shown (length bs) ≡ digits + 2 + behind (length bs)) (inside : at ≤ line)
+    (et : t ≡ leb (length word + numbers + shown (0 + length bs)) (line - at)) where
+  plainly : leb (length word + numbers + shown (length bs)) (line - at) ≡ t
+  plainly =
+      let same : length bs ≡ 0 + length bs = omega arith in
+      ap (λ (k : ℕ). leb (length word + numbers + shown k) (line - at)) same ∙ sym et
+
+  pub item-fits : not t ≡ false → at + (length word + (length (decimal n) + 2 + length (hexBehind bs))) ≤ line
+  item-fits e =
+      omega (arith, leb-true (length word + numbers + shown (length bs)) (line - at) (plainly ∙ not-false t e), behind-length bs)
+
+  pub item-full : not t ≡ true → line < at + length (item word n bs)
+  item-full e =
+      omega (arith, leb-false (length word + numbers + shown (length bs)) (line - at) (plainly ∙ not-true t e), item-length word bs n)
 
 -- The text's length, by the lengths of its parts.
 pub text-length : (w d : List ℕ) (t e n : ℕ) {x y z k : ℕ} →

@@ -5,7 +5,7 @@ use mathlib.Core.List.{List, [], _∷_, _++_}
 use mathlib.Core.Path.{_≡_}
 use lib.Dec.{leb}
 use lib.ListN.{length, take, drop}
-use Rattle.rules.specs.Lines.{decimal, hexOrDash, spaced}
+use Rattle.rules.specs.Lines.{decimal, hex, hexOrDash, spaced}
 use Rattle.text.specs.declared.Written.{Written}
 use Rattle.text.specs.declared.Written.the-variants.{Line, NoRoom}
 
@@ -46,6 +46,20 @@ pub record Wrote (bs before : List ℕ) (r : Written) (after : List ℕ) : Type 
 -- A word, and a number behind a space.
 abbrev pub counted : List ℕ → ℕ → List ℕ
 counted word n = word ++ spaced (decimal n)
+
+-- Bytes in hex behind a space; nothing where there are none.
+abbrev pub hexBehind : List ℕ → List ℕ
+hexBehind [] = []
+hexBehind (b ∷ bs) = spaced (hex (b ∷ bs))
+
+-- How many characters that takes.
+abbrev pub behind : ℕ → ℕ
+behind zero = 0
+behind (suc n) = suc n * 2 + 1
+
+-- A line: a word, a number, and bytes.
+unfoldable pub item : List ℕ → ℕ → List ℕ → List ℕ
+item word n bs = counted word n ++ hexBehind bs ++ (10 ∷ [])
 
 -- The text stands from index at on, and the answer is where it ends; where there is no room, nothing changes.
 pub record Appended (bs before : List ℕ) (at r : ℕ) (after : List ℕ) : Type 0 where

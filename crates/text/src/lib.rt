@@ -1,11 +1,11 @@
-// The line that is printed, written into a lent buffer: "outcome, finishing time, events read, notices, detail" and a newline.
+// Lines of text, written into a lent buffer. Document 01's: "outcome, finishing time, events read, notices, detail" and a newline.
 ghost use mathlib.Core.Path.{_≡_};
 ghost use mathlib.Core.List.{[], _∷_, _++_};
 ghost use Prim.Native.Nat.{_+_, _<_, _≤_};
 ghost use lib.Dec.{leb};
 ghost use lib.ListN.{length};
 ghost use Rattle.rules.specs.Lines.{digit, decimal, hex, hexOrDash, spaced};
-ghost use Rattle.text.specs.Written.{Put, Wrote, Appended, text, counted, shown, room};
+ghost use Rattle.text.specs.Written.{Put, Wrote, Appended, text, counted, shown, room, behind, hexBehind, item};
 
 // A buffer of so many bytes has room for every line of document 01. The longest is a deviation's: the word's 9 letters, 8,192 digits for its number and
 // a reply of 4,095 bytes, 10 digits of time (2 · 4,294,967,295 at most), 3 digits each of events and notices, four spaces and the newline.
@@ -177,4 +177,43 @@ pub fn put_counted(line: &mut [u8], at: usize, word: &[u8], number: u64) -> usiz
     }
     let n = put_word(line, at, word);
     put_number(line, n, number)
+}
+
+// A space and the bytes in hex; nothing where there are none.
+fn put_bytes(line: &mut [u8], at: usize, bytes: &[u8]) -> usize
+    requires { ⌜ at + length (hexBehind (now bytes)) ≤ length (now line) ⌝ }
+    ensures { λ r. ⌜ Put (now (line .entry)) at (hexBehind (now (bytes .entry))) (now (line .exit)) r ⌝ }
+{
+    if bytes.len() == 0 {
+        return at;
+    }
+    let n = put_byte(line, at, b' ');
+    put_hex(line, n, bytes)
+}
+
+// How many characters stand beside the word and the hex digits: the number's, the newline, and a space before the number and before the hex. One
+// less where there are bytes to show, since `fits` counts a character for none.
+fn beside(digits: usize, bytes: usize) -> usize
+    requires { ⌜ digits ≤ 20 ⌝ }
+    ensures { λ r. ⌜ r + shown bytes ≡ digits + 2 + behind bytes ⌝ }
+{
+    if bytes == 0 { digits + 1 } else { digits + 3 }
+}
+
+// Writes a line from index `at` on: a word, a number behind a space, and the bytes in hex behind another, if there are any. The answer is where it
+// ends. Where there is no room, nothing changes and the answer is `at`.
+pub fn put_item(line: &mut [u8], at: usize, word: &[u8], number: u64, bytes: &[u8]) -> usize
+    ensures { λ r. ⌜ Appended (item (now (word .entry)) number (now (bytes .entry))) (now (line .entry)) at r (now (line .exit)) ⌝ }
+{
+    if at > line.len() {
+        return at;
+    }
+    let numbers = beside(decimal_length(number), bytes.len());
+    if !fits(line.len() - at, word.len(), numbers, 0, bytes.len()) {
+        return at;
+    }
+    let a = put_word(line, at, word);
+    let b = put_number(line, a, number);
+    let c = put_bytes(line, b, bytes);
+    put_byte(line, c, b'\n')
 }

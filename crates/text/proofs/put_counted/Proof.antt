@@ -57,7 +57,8 @@ returns-4 c =
     let word = number .before .before .before .before in
     let counts = word .before .before .before in
     let x = counts .before .before .before .before .before .args in
-    appended (counted (x .word .now) (x .number)) (x .line .now) (x .at) (omega (arith, long (x .word .now) (x .number), counts .decimal-length .ensures .0))
+    appended (counted (x .word .now) (x .number)) (x .line .now) (x .at)
+    (omega (arith, long (x .word .now) (x .number), counts .decimal-length .ensures .0))
     (then (omega arith) (word .put-word .ensures) (number .put-number .ensures))
 
 pub put-counted-spec : {M : Type 1} → statement M

@@ -50,7 +50,12 @@ loop-again c =
     let l = p₁ .before .before .before .before .before in
     let bytes = l .before .before .before .args .bytes .now in
     let all = hex-length bytes in (
-      rw (hex-next bytes (l .loop .i) (p₁ .before .before .before .before .loop-test .taken), ← (p₁ .before .digit .ensures), ← (p₂ .before .digit2 .ensures))
+      rw (
+        hex-next bytes (l .loop .i) (p₁ .before .before .before .before .loop-test .taken),
+        ← (p₁ .before .digit .ensures),
+        ←
+            (p₂ .before .digit2 .ensures),
+      )
           (then (omega arith) (then (omega arith) (l .loop .inv .0) (p₁ .put-byte .ensures)) (p₂ .put-byte2 .ensures)),
       omega arith,
       omega arith,

@@ -20,7 +20,8 @@ long : (s : tie.Start) {x y z : ℕ} → x ≡ length (decimal (s .args .time)) 
     length (whole s) ≡ length (s .args .word .now) + (x + y + z + 5) + shown (length (s .args .head .now) + length (s .args .bytes .now))
 long s ex ey ez =
     let a = s .args in
-    text-length (a .word .now) (a .head .now ++ a .bytes .now) (a .time) (a .events) (a .notices) ex ey ez (sym (length-append (a .head .now) (a .bytes .now)))
+    text-length (a .word .now) (a .head .now ++ a .bytes .now) (a .time) (a .events) (a .notices) ex ey ez
+    (sym (length-append (a .head .now) (a .bytes .now)))
 
 -- `fits` tells whether the whole text fits.
 abbrev start : tie.After-fits2 → tie.Start
@@ -29,7 +30,8 @@ start f = f .before .before .before .before .before .before .before .before
 told : (f : tie.After-fits2) → leb (length (whole (start f))) (length (start f .args .line .now)) ≡ f .fits2 .result
 told f =
     let n = f .before in
-    let all = long (start f) (n .before .before .decimal-length .ensures .0) (n .before .decimal-length2 .ensures .0) (n .decimal-length3 .ensures .0) in
+    let all = long (start f) (n .before .before .decimal-length .ensures .0) (n .before .decimal-length2 .ensures .0)
+    (n .decimal-length3 .ensures .0) in
     ap (λ (k : ℕ). leb k (length (start f .args .line .now))) all ∙ sym (f .fits2 .ensures)
 
 decimal-length-requires : tie.Need-decimal-length-requires

@@ -1,0 +1,5 @@
+-- Laws behind the proofs of `candump`.
+pub mod Grammar
+pub mod Phases
+pub mod Reading
+pub mod Rows

@@ -1,0 +1,6 @@
+-- What follows of the definitions.
+pub mod Overflows
+pub mod Imports
+pub mod Rows
+pub mod Rises
+pub mod Passes

@@ -1,0 +1,2 @@
+-- How the code of `imports` holds what is kept.
+pub mod Held

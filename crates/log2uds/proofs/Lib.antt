@@ -1,0 +1,2 @@
+-- Laws behind the proofs of `log2uds`.
+pub mod Words

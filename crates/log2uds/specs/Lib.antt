@@ -1,0 +1,2 @@
+-- What the contracts of `log2uds` cite.
+pub mod Streams
