@@ -3,12 +3,12 @@ use Prim.Native.Nat.{ℕ, zero, suc, _+_, _-_, _*_, _≤_, _<_}
 use native.Mathlib.Nat.{add-zero, add-suc, suc-add, zero-add}
 use native.Mathlib.Omega.{arith}
 use mathlib.Core.Bool.{Bool, true, false, cond, _&&_, _||_}
-use mathlib.Core.List.{List, [], _∷_, _++_}
+use mathlib.Core.List.{List, [], _∷_, _++_, append-nil}
 use mathlib.Core.Logic.{_≢_}
 use mathlib.Core.Path.{_≡_, refl, sym, _∙_, ap, subst}
 use lib.Dec.{leb, eqb}
-use lib.ListN.{length, getD, set, replicate, length-set, length-append}
-use lib.Seq.{ext-getD, getD-set-same, getD-set-other}
+use lib.ListN.{length, getD, set, length-set, length-append}
+use lib.Seq.{append-snoc, ext-getD, getD-set-same, getD-set-other}
 use borrow.Author.Tests.{eqb-true, eqb-false, leb-true, leb-false, lt-ltb, ne-eqb}
 use Rattle.rules.specs.Bytes.{every}
 use Rattle.rules.specs.Events.{Form, plain, addressed}
@@ -77,6 +77,32 @@ one-more ls l few =
 
     at : (i : ℕ) → i < 4176 → getD (afresh (ls ++ (l ∷ []))) i 0 ≡ getD (set s p (more (getD s p 0))) i 0
     at i h = afresh-at (ls ++ (l ∷ [])) i h ∙ count-append i ls l ∙ go i h (eqb p i) refl
+
+-- The logs one by one.
+abbrev pub raisedAll : List ℕ → List (List ℕ) → List ℕ
+raisedAll s [] = s
+raisedAll s (l ∷ ls) = raisedAll (raised s l) ls
+
+behind : (done ls : List (List ℕ)) → length done + length ls < 65535 → raisedAll (afresh done) ls ≡ afresh (done ++ ls)
+behind done [] h = ap afresh (sym (append-nil done))
+behind done (l ∷ ls) h =
+    let snoc : done ++ (l ∷ []) ++ ls ≡ done ++ (l ∷ ls) = append-snoc done l ls in
+    ap (λ (s : List ℕ). raisedAll s ls) (sym (one-more done l (omega arith))) ∙
+    behind (done ++ (l ∷ [])) ls (omega (arith, length-append done (l ∷ []))) ∙
+    ap afresh snoc
+
+-- Counters of no logs: none, and one more.
+pub none-yet : [] ≡ tally [] 0 0
+unfolding tally
+none-yet = refl
+
+pub one-zero-more : (n i : ℕ) → tally [] n i ++ (0 ∷ []) ≡ tally [] (suc n) i
+unfolding tally
+one-zero-more zero i = refl
+one-zero-more (suc n) i = ap (λ (l : List ℕ). 0 ∷ l) (one-zero-more n (suc i))
+
+pub one-by-one : (ls : List (List ℕ)) → length ls < 65535 → raisedAll (afresh []) ls ≡ afresh ls
+one-by-one ls h = behind [] ls (omega arith)
 
 -- A log has a header.
 pub has-header : (l : List ℕ) → layoutOk l ≡ true → 36 ≤ length l

@@ -94,15 +94,15 @@ told d (suc n) at rest b h ok =
         }
 
 -- A header that passes, as facts.
-record Head (b : List ℕ) : Type 0 where
-  whole : 20 ≤ length b
-  fits : length b ≤ 65536
-  mark : u16At b 0 ≡ 0x5542
-  version : u16At b 2 ≡ 1
-  directory-at : u16At b 6 ≡ 20
-  logs-at : u32At b 12 ≡ start (u16At b 4)
-  total : u32At b 16 ≡ u32At b 12 + u32At b 8
-  full : u32At b 16 ≡ length b
+pub record Head (b : List ℕ) : Type 0 where
+  pub whole : 20 ≤ length b
+  pub fits : length b ≤ 65536
+  pub mark : u16At b 0 ≡ 0x5542
+  pub version : u16At b 2 ≡ 1
+  pub directory-at : u16At b 6 ≡ 20
+  pub logs-at : u32At b 12 ≡ start (u16At b 4)
+  pub total : u32At b 16 ≡ u32At b 12 + u32At b 8
+  pub full : u32At b 16 ≡ length b
 
 abbrev head-tests : List ℕ → List Bool
 head-tests b =
@@ -115,7 +115,7 @@ head-tests b =
     eqb (u32At b 16) (u32At b 12 + u32At b 8) ∷
     eqb (u32At b 16) (length b) ∷ []
 
-head-so : (b : List ℕ) → headOk b ≡ true → Head b
+pub head-so : (b : List ℕ) → headOk b ≡ true → Head b
 head-so b ok =
     let t = trues (head-tests b) ok in
     record {
