@@ -3,3 +3,4 @@ pub mod Walks
 pub mod Inserting
 pub mod Classes
 pub mod Adding
+pub mod Promises
