@@ -58,7 +58,7 @@ bad_log() { ./udsbook add "$one" </dev/null | cmp - "$one"; }
 both_bad() { ./udsbook add "$log" </dev/null; }
 status_23() { ./udsbook add "$one" </dev/null >/dev/null; }
 try "udsbook: a log is no book" 3 "" "refused 25" no_book
-try "udsbook: the old book where the log is bad" 0 "" "refused 23" bad_log
+try "udsbook: the old book where the log is bad" 3 "" "refused 23" bad_log
 try "udsbook: and the status" 3 "" "refused 23" status_23
 try "udsbook: 25 comes first" 3 "" "refused 25" both_bad
 try "udsbook: no such log" 3 "" "refused 24" ./udsbook find "$one" 7 1
@@ -82,8 +82,8 @@ fills() { filler 65508 | ./udsbook add "$empty" | wc -c; }
 overflows() { filler 65509 | ./udsbook add "$empty" | cmp - "$empty"; }
 too_long() { filler 65535 | (cat && printf x) | ./udsbook add "$empty" | cmp - "$empty"; }
 try "udsbook: 65,536 bytes" 0 65536 $'added 7 0\n7 timeout 1' fills
-try "udsbook: 65,537 bytes" 0 "" "refused 22" overflows
-try "udsbook: 65,536 bytes are no log" 0 "" "refused 23" too_long
+try "udsbook: 65,537 bytes" 3 "" "refused 22" overflows
+try "udsbook: 65,536 bytes are no log" 3 "" "refused 23" too_long
 
 # Wrong usage: one line, and nothing else.
 usage='usage: udsbook new | add BOOK | find BOOK CALL K | summary BOOK'
