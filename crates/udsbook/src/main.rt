@@ -19,6 +19,10 @@ use words::Command;
 use words::Number;
 use words::command_of;
 use words::number_in;
+ghost use Prim.Native.Nat.{_≤_};
+ghost use mathlib.Core.Path.{_≡_};
+ghost use lib.ListN.{length, take};
+ghost use Rattle.udsbook.specs.Streams.{Adds, Finds, Sums};
 
 mod report;
 mod words;
@@ -41,7 +45,10 @@ struct Piece {
 
 // `udsbook add`, of the book that the first n bytes are: "standard output is the book afterwards. Where refused with 22 or 23 that is the old
 // book, byte for byte; with 25 nothing."
-fn add_log(book: &mut [u8], n: usize, log: &[u8], summary: &mut [u16], said: &mut [u8]) -> Streams {
+fn add_log(book: &mut [u8], n: usize, log: &[u8], summary: &mut [u16], said: &mut [u8]) -> Streams
+    requires { ⌜ (65536 ≤ length (now book)) × (length (now summary) ≡ 4176) × (200 ≤ length (now said)) ⌝ }
+    ensures { λ r. ⌜ Adds (take n (now (book .entry))) (now (log .entry)) r (now (book .exit)) (now (said .exit)) ⌝ }
+{
     summarize(part(book, 0, n), summary);
     match add(book, n, log, summary) {
         Added::Book(m, entry) => Streams {
@@ -66,8 +73,11 @@ fn add_log(book: &mut [u8], n: usize, log: &[u8], summary: &mut [u16], said: &mu
 }
 
 // `udsbook find`
-fn find_log(book: &[u8], n: usize, call: u64, k: u64, said: &mut [u8]) -> Piece {
-    match find(part(book, 0, n), call, k) {
+fn find_log(book: &[u8], call: u64, k: u64, said: &mut [u8]) -> Piece
+    requires { ⌜ 200 ≤ length (now said) ⌝ }
+    ensures { λ r. ⌜ Finds (now (book .entry)) call k r (now (said .exit)) ⌝ }
+{
+    match find(book, call, k) {
         Found::Log(place) => Piece {
             at: place.at,
             len: place.len,
@@ -82,8 +92,11 @@ fn find_log(book: &[u8], n: usize, call: u64, k: u64, said: &mut [u8]) -> Piece 
 }
 
 // `udsbook summary`
-fn sum_up(book: &[u8], n: usize, summary: &mut [u16], text: &mut [u8], said: &mut [u8]) -> Streams {
-    match summarize(part(book, 0, n), summary) {
+fn sum_up(book: &[u8], summary: &mut [u16], text: &mut [u8], said: &mut [u8]) -> Streams
+    requires { ⌜ (length (now summary) ≡ 4176) × (100224 ≤ length (now text)) × (200 ≤ length (now said)) ⌝ }
+    ensures { λ r. ⌜ Sums (now (book .entry)) r (now (text .exit)) (now (said .exit)) ⌝ }
+{
+    match summarize(book, summary) {
         Summed::Summary => Streams {
             out: put_summary(text, summary),
             said: 0,
@@ -117,13 +130,13 @@ fn open_book() -> i32 {
 }
 
 fn run_add() {
-    let file = open_book();
-    if file < 0 {
+    let fd = open_book();
+    if fd < 0 {
         usage();
         return;
     }
     let mut book = [0u8; MOST_READ];
-    let n = io::read_full(file, &mut book);
+    let n = io::read_full(fd, &mut book);
     let mut log = io::large_buffer();
     let m = io::read_full(STDIN_FILENO, &mut log);
     let mut summary = [0u16; COUNTERS];
@@ -134,31 +147,32 @@ fn run_add() {
 }
 
 fn run_find(call: u64, k: u64) {
-    let file = open_book();
-    if file < 0 {
+    let fd = open_book();
+    if fd < 0 {
         usage();
         return;
     }
     let mut book = [0u8; MOST_READ];
-    let n = io::read_full(file, &mut book);
+    let n = io::read_full(fd, &mut book);
     let mut said = [0u8; 200];
-    let piece = find_log(&book, n, call, k, &mut said);
-    io::write_all(STDOUT_FILENO, part(&book, piece.at, piece.len));
+    let file = part(&book, 0, n);
+    let piece = find_log(file, call, k, &mut said);
+    io::write_all(STDOUT_FILENO, part(file, piece.at, piece.len));
     io::write_all(STDERR_FILENO, part(&said, 0, piece.said));
 }
 
 fn run_summary() {
-    let file = open_book();
-    if file < 0 {
+    let fd = open_book();
+    if fd < 0 {
         usage();
         return;
     }
     let mut book = [0u8; MOST_READ];
-    let n = io::read_full(file, &mut book);
+    let n = io::read_full(fd, &mut book);
     let mut summary = [0u16; COUNTERS];
     let mut text = [0u8; LONGEST];
     let mut said = [0u8; 200];
-    let ends = sum_up(&book, n, &mut summary, &mut text, &mut said);
+    let ends = sum_up(part(&book, 0, n), &mut summary, &mut text, &mut said);
     io::write_all(STDOUT_FILENO, part(&text, 0, ends.out));
     io::write_all(STDERR_FILENO, part(&said, 0, ends.said));
 }

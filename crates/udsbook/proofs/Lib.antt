@@ -1,0 +1,3 @@
+-- Laws behind the proofs of `udsbook`.
+pub mod Texts
+pub mod Holding

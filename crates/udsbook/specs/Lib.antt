@@ -1,0 +1,2 @@
+-- What the contracts of `udsbook` cite besides `bookkeeping`.
+pub mod Streams
