@@ -14,7 +14,9 @@ use Rattle.book.proofs.count_of.Statement.{statement}
 use Rattle.book.proofs.count_of.Tie as tie
 
 abbrev Inv-loop : tie.InvT-loop
-Inv-loop book call count at₀ seen₀ i₀ at seen i = (i ≤ count) × (at ≤ 524308 + i * 65535) × (seen ≤ i) × (seen + length (ofCall call (left book count i at)) ≡ length (ofCall call (logsIn book)))
+Inv-loop book call count at₀ seen₀ i₀ at seen i =
+    (i ≤ count) × (at ≤ 524308 + i * 65535) × (seen ≤ i)
+    × (seen + length (ofCall call (left book count i at)) ≡ length (ofCall call (logsIn book)))
 
 abbrev μ-loop : tie.MeasureT-loop
 μ-loop book call count at₀ seen₀ i₀ at seen i = count - i
@@ -27,11 +29,20 @@ start-requires c κs = search needs
 
 loop-holds : tie.Need-loop-holds Inv-loop μ-loop
 loop-holds c =
-    let b = (c .before .before .before .args .book .now) in
-    let n = (c .before .log-count .ensures .0) in
+    let entered = c .before .before .before in
+    let b = entered .args .book .now in
+    let n = c .before .log-count .ensures .0 in
     let at = (c .start .ensures) ∙ ap start n in
-    let lists = ap₂ (λ (m a : ℕ). left b m 0 a) n at ∙ all-left b in
-    (omega arith, omega (arith, (c .start .ensures), (c .before .log-count .ensures .1)), omega arith, omega (arith, ap (λ (ls : List (List ℕ)). length (ofCall (c .before .before .before .args .call) ls)) lists))
+    let lists = ap₂ (λ (m a : ℕ). left b m 0 a) n at ∙ all-left b in (
+      omega arith,
+      omega (arith, c .start .ensures, c .before .log-count .ensures .1),
+      omega arith,
+      omega (
+        arith,
+        ap (λ (ls : List (List ℕ)). length (ofCall
+            (entered .args .call) ls)) lists,
+      ),
+    )
 
 log-size-requires : tie.Need-log-size-requires Inv-loop μ-loop
 log-size-requires c κs = search needs
@@ -43,10 +54,29 @@ call-in-requires : tie.Need-call-in-requires Inv-loop μ-loop
 call-in-requires c κs = search needs
 
 add-seen : tie.Need-add-seen Inv-loop μ-loop
-add-seen c = omega (arith, (c .before .before .before .before .before .loop .inv .2), (c .before .before .before .before .before .before .before .log-count .ensures .1), (c .before .before .before .before .before .loop .inv .0))
+add-seen c =
+    let at-loop = c .before .before .before .before .before in
+    let at-log-count = at-loop .before .before in
+    omega (arith, at-loop .loop .inv .2, at-log-count .log-count .ensures .1, at-loop .loop .inv .0)
 
 add-at : tie.Need-add-at Inv-loop μ-loop
-add-at c = omega (arith, (c .before .before .before .before .before .loop .inv .0), (c .before .before .before .before .before .loop .inv .1), (c .before .before .before .before .before .before .before .log-count .ensures .1), ap (λ (x : List ℕ). length x) (c .before .before .part .ensures), length-take (c .before .before .before .log-size .result) (drop (c .before .before .before .before .before .loop .at) (c .before .before .before .before .before .before .before .before .before .args .book .now)), (c .before .before .before .log-size .ensures .1))
+add-at c =
+    let at-part = c .before .before in
+    let at-log-size = at-part .before in
+    let at-loop = at-log-size .before .before in
+    let at-log-count = at-loop .before .before in
+    let entered = at-log-count .before .before in
+    omega (
+      arith,
+      at-loop .loop .inv .0,
+      at-loop .loop .inv .1,
+      at-log-count .log-count .ensures .1,
+      ap (λ (x : List ℕ). length x)
+          (at-part .part .ensures),
+      length-take (at-log-size .log-size .result) (drop (at-loop .loop .at)
+          (entered .args .book .now)),
+      at-log-size .log-size .ensures .1,
+    )
 
 add-i : tie.Need-add-i Inv-loop μ-loop
 add-i c = omega arith
@@ -56,14 +86,26 @@ loop-less c = omega arith
 
 loop-again : tie.Need-loop-again Inv-loop μ-loop
 loop-again c =
-    let l = (c .before .before .before .before .before .loop) in
-    let b = (c .before .before .before .before .before .before .before .before .before .args .book .now) in
-    let n = (c .before .before .before .before .before .before .before .log-count .result) in
-    let log = (c .before .before .part .result .now) in
-    let is : log ≡ logAt b (l .i) (l .at) = (c .before .before .part .ensures) ∙ ap (λ (s : ℕ). take s (drop (l .at) b)) (c .before .before .before .log-size .ensures .0) in
-    let short : length log ≤ 65535 = omega (arith, ap (λ (x : List ℕ). length x) (c .before .before .part .ensures), length-take (c .before .before .before .log-size .result) (drop (l .at) b), (c .before .before .before .log-size .ensures .1)) in
-    let call = (c .before .before .before .before .before .before .before .before .before .args .call) in
-    let more = (c .before .before .before .before .loop-test .taken) in (
+    let at-part = c .before .before in
+    let at-log-size = at-part .before in
+    let at-loop-test = at-log-size .before in
+    let at-loop = at-loop-test .before in
+    let at-log-count = at-loop .before .before in
+    let entered = at-log-count .before .before in
+    let l = at-loop .loop in
+    let b = entered .args .book .now in
+    let n = at-log-count .log-count .result in
+    let log = at-part .part .result .now in
+    let is : log ≡ logAt b (l .i) (l .at) = (at-part .part .ensures) ∙ ap (λ (s : ℕ). take s (drop (l .at) b)) (at-log-size .log-size .ensures .0) in
+    let short : length log ≤ 65535 = omega (
+      arith,
+      ap (λ (x : List ℕ). length x) (at-part .part .ensures),
+      length-take (at-log-size .log-size .result) (drop
+          (l .at) b),
+      at-log-size .log-size .ensures .1,
+    ) in
+    let call = entered .args .call in
+    let more = at-loop-test .loop-test .taken in (
       omega arith,
       omega (arith, l .inv .1, short),
       ⊎-elim (λ w. omega (arith, w .1, l .inv .2)) (λ w. omega (arith, w .1, l .inv .2)) (c .if1 .came),
@@ -75,8 +117,11 @@ loop-again c =
 
 returns : tie.Need-returns Inv-loop μ-loop
 returns c =
-    let l = (c .before .loop) in
-    let none = ap (λ (ls : List (List ℕ)). length (ofCall (c .before .before .before .before .before .args .call) ls)) (none-left (c .before .before .before .before .before .args .book .now) (c .before .before .before .log-count .result) (l .i) (l .at) (c .loop-test .left)) in
+    let at-log-count = c .before .before .before in
+    let entered = at-log-count .before .before in
+    let l = c .before .loop in
+    let none = ap (λ (ls : List (List ℕ)). length (ofCall (entered .args .call) ls)) (none-left (entered .args .book .now) (at-log-count .log-count .result)
+    (l .i) (l .at) (c .loop-test .left)) in
     omega (arith, l .inv .3, none)
 
 pub count-of-spec : {M : Type 1} → statement M

@@ -19,7 +19,9 @@ use Rattle.book.proofs.find.Statement.{statement}
 use Rattle.book.proofs.find.Tie as tie
 
 abbrev Inv-loop : tie.InvT-loop
-Inv-loop book call k count at₀ left₀ i₀ at left i = (i ≤ count) × (at ≤ 524308 + i * 65535) × (nth call left (walks.left book count i at) ≡ bookkeeping.find book call k) × (standsAt call left at (walks.left book count i at) ≡ standsAt call k (start (u16At book 4)) (logsIn book))
+Inv-loop book call k count at₀ left₀ i₀ at left i =
+    (i ≤ count) × (at ≤ 524308 + i * 65535) × (nth call left (walks.left book count i at) ≡ bookkeeping.find book call k)
+    × (standsAt call left at (walks.left book count i at) ≡ standsAt call k (start (u16At book 4)) (logsIn book))
 
 abbrev μ-loop : tie.MeasureT-loop
 μ-loop book call k count at₀ left₀ i₀ at left i = count - i
@@ -28,7 +30,13 @@ is-book-requires : tie.Need-is-book-requires Inv-loop μ-loop
 is-book-requires c κs = search needs
 
 returns : tie.Need-returns Inv-loop μ-loop
-returns c = record { answer = sym (no-book (c .before .before .before .args .book .now) (c .before .before .before .args .call) (c .before .before .before .args .k) (sym (c .before .is-book .ensures) ∙ not-true _ (c .if1 .taken))); place = tt }
+returns c =
+    let entered = c .before .before .before in
+    record {
+      answer = sym (no-book (entered .args .book .now) (entered .args .call) (entered .args .k) (sym (c .before .is-book .ensures) ∙ not-true _
+          (c .if1 .taken)));
+      place = tt;
+    }
 
 log-count-requires : tie.Need-log-count-requires Inv-loop μ-loop
 log-count-requires c κs = search needs
@@ -38,14 +46,17 @@ start-requires c κs = search needs
 
 loop-holds : tie.Need-loop-holds Inv-loop μ-loop
 loop-holds c =
-    let x = (c .before .before .before .before .before .args) in
+    let at-if1 = c .before .before in
+    let at-is-book = at-if1 .before in
+    let entered = at-is-book .before .before in
+    let x = entered .args in
     let b = x .book .now in
-    let n = (c .before .log-count .ensures .0) in
+    let n = c .before .log-count .ensures .0 in
     let at = (c .start .ensures) ∙ ap start n in
     let lists = ap₂ (λ (m a : ℕ). walks.left b m 0 a) n at ∙ all-left b in (
       omega arith,
-      omega (arith, (c .start .ensures), (c .before .log-count .ensures .1)),
-      ap (nth (x .call) (x .k)) lists ∙ finds b (x .call) (x .k) (sym (c .before .before .before .is-book .ensures) ∙ not-false _ (c .before .before .if1 .left)),
+      omega (arith, c .start .ensures, c .before .log-count .ensures .1),
+      ap (nth (x .call) (x .k)) lists ∙ finds b (x .call) (x .k) (sym (at-is-book .is-book .ensures) ∙ not-false _ (at-if1 .if1 .left)),
       ap₂ (λ (a : ℕ) (ls : List (List ℕ)). standsAt (x .call) (x .k) a ls) at lists,
     )
 
@@ -63,20 +74,44 @@ cast-if2 c = omega arith
 
 returns-2 : tie.Need-returns-2 Inv-loop μ-loop
 returns-2 c =
-    let l = (c .before .before .before .before .before .before .loop) in
-    let b = (c .before .before .before .before .before .before .before .before .before .before .before .before .args .book .now) in
-    let n = (c .before .before .before .before .before .before .before .before .log-count .result) in
-    let log = (c .before .before .before .part .result .now) in
-    let is : log ≡ logAt b (l .i) (l .at) = (c .before .before .before .part .ensures) ∙ ap (λ (s : ℕ). take s (drop (l .at) b)) (c .before .before .before .before .log-size .ensures .0) in
-    let more = (c .before .before .before .before .before .loop-test .taken) in
-    let f = found-here b n (l .i) (l .at) more log is (c .before .before .before .before .before .before .before .before .before .before .before .before .args .call) (l .left) (l .inv .2) (l .inv .3) (sym (c .before .before .call-in .ensures) ∙ (c .before .if2 .taken)) (c .if3 .taken) in
+    let at-call-in = c .before .before in
+    let at-part = at-call-in .before in
+    let at-log-size = at-part .before in
+    let at-loop-test = at-log-size .before in
+    let at-loop = at-loop-test .before in
+    let at-log-count = at-loop .before .before in
+    let entered = at-log-count .before .before .before .before in
+    let l = at-loop .loop in
+    let b = entered .args .book .now in
+    let n = at-log-count .log-count .result in
+    let log = at-part .part .result .now in
+    let is : log ≡ logAt b (l .i) (l .at) = (at-part .part .ensures) ∙ ap (λ (s : ℕ). take s (drop (l .at) b)) (at-log-size .log-size .ensures .0) in
+    let more = at-loop-test .loop-test .taken in
+    let f = found-here b n (l .i) (l .at) more log is (entered .args .call) (l .left) (l .inv .2) (l .inv .3) (sym (at-call-in .call-in .ensures) ∙
+    (c .before .if2 .taken)) (c .if3 .taken) in
     record { answer = f .0; place = (f .1, ap (λ (y : List ℕ). length y) (sym (as-read b n (l .i) (l .at) more log is))) }
 
 sub-left : tie.Need-sub-left Inv-loop μ-loop
 sub-left c = omega arith
 
 add-at : tie.Need-add-at Inv-loop μ-loop
-add-at c = omega (arith, (c .before .before .before .before .before .loop .inv .0), (c .before .before .before .before .before .loop .inv .1), (c .before .before .before .before .before .before .before .log-count .ensures .1), ap (λ (y : List ℕ). length y) (c .before .before .part .ensures), length-take (c .before .before .before .log-size .result) (drop (c .before .before .before .before .before .loop .at) (c .before .before .before .before .before .before .before .before .before .before .before .args .book .now)), (c .before .before .before .log-size .ensures .1))
+add-at c =
+    let at-part = c .before .before in
+    let at-log-size = at-part .before in
+    let at-loop = at-log-size .before .before in
+    let at-log-count = at-loop .before .before in
+    let entered = at-log-count .before .before .before .before in
+    omega (
+      arith,
+      at-loop .loop .inv .0,
+      at-loop .loop .inv .1,
+      at-log-count .log-count .ensures .1,
+      ap (λ (y : List ℕ). length y)
+          (at-part .part .ensures),
+      length-take (at-log-size .log-size .result) (drop (at-loop .loop .at)
+          (entered .args .book .now)),
+      at-log-size .log-size .ensures .1,
+    )
 
 add-i : tie.Need-add-i Inv-loop μ-loop
 add-i c = omega arith
@@ -86,30 +121,48 @@ loop-less c = omega arith
 
 loop-again : tie.Need-loop-again Inv-loop μ-loop
 loop-again c =
-    let l = (c .before .before .before .before .before .loop) in
-    let x = (c .before .before .before .before .before .before .before .before .before .before .before .args) in
+    let at-part = c .before .before in
+    let at-log-size = at-part .before in
+    let at-loop-test = at-log-size .before in
+    let at-loop = at-loop-test .before in
+    let at-log-count = at-loop .before .before in
+    let entered = at-log-count .before .before .before .before in
+    let l = at-loop .loop in
+    let x = entered .args in
     let b = x .book .now in
-    let n = (c .before .before .before .before .before .before .before .log-count .result) in
-    let log = (c .before .before .part .result .now) in
-    let is : log ≡ logAt b (l .i) (l .at) = (c .before .before .part .ensures) ∙ ap (λ (s : ℕ). take s (drop (l .at) b)) (c .before .before .before .log-size .ensures .0) in
-    let short : length log ≤ 65535 = omega (arith, ap (λ (y : List ℕ). length y) (c .before .before .part .ensures), length-take (c .before .before .before .log-size .result) (drop (l .at) b), (c .before .before .before .log-size .ensures .1)) in
-    let more = (c .before .before .before .before .loop-test .taken) in
+    let n = at-log-count .log-count .result in
+    let log = at-part .part .result .now in
+    let is : log ≡ logAt b (l .i) (l .at) = (at-part .part .ensures) ∙ ap (λ (s : ℕ). take s (drop (l .at) b)) (at-log-size .log-size .ensures .0) in
+    let short : length log ≤ 65535 = omega (
+      arith,
+      ap (λ (y : List ℕ). length y) (at-part .part .ensures),
+      length-take (at-log-size .log-size .result) (drop
+          (l .at) b),
+      at-log-size .log-size .ensures .1,
+    ) in
+    let more = at-loop-test .loop-test .taken in
     let rest = others b n (l .i) (l .at) more log is in
-    let Goal : ℕ → Type 0 = λ (k : ℕ). (nth (x .call) k rest ≡ bookkeeping.find b (x .call) (x .k)) × (standsAt (x .call) k (l .at + length log) rest ≡ standsAt (x .call) (x .k) (start (u16At b 4)) (logsIn b)) in
+    let Goal : ℕ → Type 0 = λ (k : ℕ). (nth (x .call) k rest ≡ bookkeeping.find b (x .call) (x .k)) × (standsAt (x .call) k
+    (l .at + length log) rest ≡ standsAt (x .call) (x .k) (start (u16At b 4)) (logsIn b)) in
     let on : Goal (c .if2 .left) =
     ⊎-elim
-    (λ w. subst⁻¹ Goal (w .2) (counted-off b n (l .i) (l .at) more log is (x .call) (l .left) (l .inv .2) (l .inv .3) (sym (c .before .call-in .ensures) ∙ w .0 .taken) (omega (arith, w .1 .left))))
-    (λ w. subst⁻¹ Goal (w .1) (passed-by b n (l .i) (l .at) more log is (x .call) (l .left) (l .inv .2) (l .inv .3) (λ e. w .0 .left ((c .before .call-in .ensures) ∙ e))))
+    (λ w. subst⁻¹ Goal (w .2) (counted-off b n (l .i) (l .at) more log is (x .call) (l .left) (l .inv .2) (l .inv .3) (sym
+    (c .before .call-in .ensures) ∙ w .0 .taken) (omega (arith, w .1 .left))))
+    (λ w. subst⁻¹ Goal (w .1) (passed-by b n (l .i) (l .at) more log is (x .call) (l .left) (l .inv .2) (l .inv .3) (λ e. w .0 .left
+    ((c .before .call-in .ensures) ∙ e))))
     (c .if2 .came)
     in
     (omega arith, omega (arith, l .inv .1, short), on .0, on .1)
 
 returns-3 : tie.Need-returns-3 Inv-loop μ-loop
 returns-3 c =
-    let l = (c .before .loop) in
-    let x = (c .before .before .before .before .before .before .before .args) in
+    let at-log-count = c .before .before .before in
+    let entered = at-log-count .before .before .before .before in
+    let l = c .before .loop in
+    let x = entered .args in
     record {
-      answer = sym (finds-none (x .call) (l .left)) ∙ ap (nth (x .call) (l .left)) (sym (none-left (x .book .now) (c .before .before .before .log-count .result) (l .i) (l .at) (c .loop-test .left))) ∙ l .inv .2;
+      answer = sym (finds-none (x .call) (l .left)) ∙ ap (nth (x .call) (l .left)) (sym (none-left (x .book .now) (at-log-count .log-count .result) (l .i)
+          (l .at) (c .loop-test .left))) ∙ l .inv .2;
       place = tt;
     }
 

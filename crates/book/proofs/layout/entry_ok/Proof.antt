@@ -45,18 +45,27 @@ all-requires c κs = search needs
 
 returns : tie.Need-returns
 returns c =
+    let at-byte-at2 = c .before .before in
+    let at-call-in = at-byte-at2 .before in
+    let at-sound = at-call-in .before in
+    let at-u32-at = at-sound .before in
+    let at-byte-at = at-u32-at .before in
+    let at-part = at-byte-at .before in
+    let at-log-size = at-part .before in
+    let at-start = at-log-size .before in
+    let entered = at-start .before .before in
     rw (
       (c .all .ensures),
-      (c .before .before .before .before .sound .ensures),
-      (c .before .before .before .call-in .ensures),
-      (c .before .before .before .before .before .before .before .part .ensures),
-      (c .before .before .before .before .before .before .before .before .log-size .ensures .0),
-      (c .before .before .before .before .before .u32-at .ensures),
-      (c .before .before .before .before .before .before .byte-at .ensures),
-      (c .before .before .byte-at2 .ensures),
-      (c .before .before .before .before .before .before .before .before .before .start .ensures),
+      (at-sound .sound .ensures),
+      (at-call-in .call-in .ensures),
+      (at-part .part .ensures),
+      (at-log-size .log-size .ensures .0),
+      (at-u32-at .u32-at .ensures),
+      (at-byte-at .byte-at .ensures),
+      (at-byte-at2 .byte-at2 .ensures),
+      (at-start .start .ensures),
     )
-    (entry-read (c .before .before .before .before .before .before .before .before .before .before .before .args .book .now) (c .before .before .before .before .before .before .before .before .before .before .before .args .i) (c .before .before .before .before .before .before .before .before .before .before .before .args .at))
+    (entry-read (entered .args .book .now) (entered .args .i) (entered .args .at))
 
 pub entry-ok-spec : {M : Type 1} → statement M
 entry-ok-spec =

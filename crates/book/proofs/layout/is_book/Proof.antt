@@ -36,25 +36,41 @@ start-requires c κs = search needs
 
 loop-holds : tie.Need-loop-holds Inv-loop μ-loop
 loop-holds c =
-    let b = (c .before .before .before .before .before .args .book .now) in
-    let bytes = are-bytes b (λ i. omega (arith, (c .before .before .before .before .shared-slice-known .given) i)) in
-    let n = (c .before .log-count .ensures .0) in
-    let head = with-head b bytes (sym (c .before .before .before .header-ok .ensures) ∙ not-false _ (c .before .before .if1 .left)) in
-    (omega arith, omega (arith, (c .start .ensures), (c .before .log-count .ensures .1)), ap₂ (λ (m at : ℕ). leftOk b m 0 at) n ((c .start .ensures) ∙ ap start n) ∙ head)
+    let at-if1 = c .before .before in
+    let at-header-ok = at-if1 .before in
+    let at-shared-slice-known = at-header-ok .before in
+    let entered = at-shared-slice-known .before in
+    let b = entered .args .book .now in
+    let bytes = are-bytes b (λ i. omega (arith, (at-shared-slice-known .shared-slice-known .given) i)) in
+    let n = c .before .log-count .ensures .0 in
+    let head = with-head b bytes (sym (at-header-ok .header-ok .ensures) ∙ not-false _ (at-if1 .if1 .left)) in (
+      omega arith,
+      omega (arith, c .start .ensures, c .before .log-count .ensures .1),
+      ap₂ (λ (m at : ℕ). leftOk b m 0 at) n
+          ((c .start .ensures) ∙ ap start n) ∙ head,
+    )
 
 entry-ok-requires : tie.Need-entry-ok-requires Inv-loop μ-loop
 entry-ok-requires c κs = search needs
 
 returns-2 : tie.Need-returns-2 Inv-loop μ-loop
 returns-2 c =
-    let l = (c .before .before .before .loop) in
-    sym (fails (c .before .before .before .before .before .before .before .before .before .args .book .now) (c .before .before .before .before .before .log-count .result) (l .i) (l .at) (c .before .before .loop-test .taken) (sym (c .before .entry-ok .ensures) ∙ not-true _ (c .if2 .taken))) ∙ l .inv .2
+    let at-loop-test = c .before .before in
+    let at-loop = at-loop-test .before in
+    let at-log-count = at-loop .before .before in
+    let entered = at-log-count .before .before .before .before in
+    let l = at-loop .loop in
+    sym (fails (entered .args .book .now) (at-log-count .log-count .result) (l .i) (l .at) (at-loop-test .loop-test .taken) (sym
+    (c .before .entry-ok .ensures) ∙ not-true _ (c .if2 .taken))) ∙ l .inv .2
 
 log-size-requires : tie.Need-log-size-requires Inv-loop μ-loop
 log-size-requires c κs = search needs
 
 add-at : tie.Need-add-at Inv-loop μ-loop
-add-at c = omega (arith, (c .before .before .before .before .loop .inv .1), (c .log-size .ensures .1), (c .before .before .before .before .before .before .log-count .ensures .1))
+add-at c =
+    let at-loop = c .before .before .before .before in
+    let at-log-count = at-loop .before .before in
+    omega (arith, at-loop .loop .inv .1, c .log-size .ensures .1, at-log-count .log-count .ensures .1)
 
 add-i : tie.Need-add-i Inv-loop μ-loop
 add-i c = omega arith
@@ -64,17 +80,25 @@ loop-less c = omega arith
 
 loop-again : tie.Need-loop-again Inv-loop μ-loop
 loop-again c =
-    let l = (c .before .before .before .before .loop) in
-    let b = (c .before .before .before .before .before .before .before .before .before .before .args .book .now) in
-    let n = (c .before .before .before .before .before .before .log-count .result) in
-    let on = goes-on b n (l .i) (l .at) (c .before .before .before .loop-test .taken) (sym (c .before .before .entry-ok .ensures) ∙ not-false _ (c .before .if2 .left)) in (
+    let at-entry-ok = c .before .before in
+    let at-loop-test = at-entry-ok .before in
+    let at-loop = at-loop-test .before in
+    let at-log-count = at-loop .before .before in
+    let entered = at-log-count .before .before .before .before in
+    let l = at-loop .loop in
+    let b = entered .args .book .now in
+    let n = at-log-count .log-count .result in
+    let on = goes-on b n (l .i) (l .at) (at-loop-test .loop-test .taken) (sym (at-entry-ok .entry-ok .ensures) ∙ not-false _ (c .before .if2 .left)) in (
       omega arith,
-      omega (arith, l .inv .1, (c .log-size .ensures .1)),
+      omega (arith, l .inv .1, c .log-size .ensures .1),
       ap (λ (s : ℕ). leftOk b n (l .i + 1) (l .at + s)) (c .log-size .ensures .0) ∙ sym on ∙ l .inv .2,
     )
 
 returns-3 : tie.Need-returns-3 Inv-loop μ-loop
-returns-3 c = let l = (c .before .loop) in sym (none-ok (c .before .before .before .before .before .before .before .args .book .now) (c .before .before .before .log-count .result) (l .i) (l .at) (c .loop-test .left)) ∙ l .inv .2
+returns-3 c =
+    let at-log-count = c .before .before .before in
+    let entered = at-log-count .before .before .before .before in
+    let l = c .before .loop in sym (none-ok (entered .args .book .now) (at-log-count .log-count .result) (l .i) (l .at) (c .loop-test .left)) ∙ l .inv .2
 
 pub is-book-spec : {M : Type 1} → statement M
 is-book-spec =

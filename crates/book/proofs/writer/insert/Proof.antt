@@ -84,14 +84,31 @@ add-put-offsets c = search needs
 
 put-offsets-requires : tie.Need-put-offsets-requires
 put-offsets-requires c κs =
-    let a = c .before .before .before .before .before .before .before .before .before .before .before .before .before .before .before .before in
-    (few a, omega (arith, long a, begun a .pre .1), omega (arith, started a, counted a, long a, begun a .pre .2, (c .before .before .before .before .before .before .before .before .before .before .before .before .before .book .given), (c .before .before .before .before .before .before .before .before .before .book2 .given), (c .before .before .book3 .given)))
+    let at-book3 = c .before .before in
+    let at-book2 = at-book3 .before .before .before .before .before .before .before in
+    let at-book = at-book2 .before .before .before .before in
+    let a = at-book .before .before .before in (
+      few a,
+      omega (arith, long a, begun a .pre .1),
+      omega (
+        arith,
+        started a,
+        counted a,
+        long a,
+        begun a .pre .2,
+        at-book .book .given,
+        at-book2 .book2 .given,
+        at-book3 .book3 .given,
+      ),
+    )
 
 add-put-header : tie.Need-add-put-header
 add-put-header c = search needs
 
 cast-put-header : tie.Need-cast-put-header
-cast-put-header c = let a = c .before .before .before .before .before .before .before .before .before .before .before .before .before .before .before .before .before .before .before .before in omega (arith, few a)
+cast-put-header c =
+    let a = c .before .before .before .before .before .before .before .before .before .before .before .before .before .before .before .before .before
+    .before .before .before in omega (arith, few a)
 
 add-put-header-2 : tie.Need-add-put-header-2
 add-put-header-2 c = search needs
@@ -107,7 +124,14 @@ same-length c = search needs
 
 returns : tie.Need-returns
 returns c =
-    let a = c .before .before .before .before .before .before .before .before .before .before .before .before .before .before .before .before .before .before .before .before .before .before .before in
+    let at-put-header = c .before .before in
+    let at-put-offsets = at-put-header .before .before .before .before in
+    let at-copy-into2 = at-put-offsets .before .before .before .before in
+    let at-entry-bytes = at-copy-into2 .before .before .before in
+    let at-call-in = at-entry-bytes .before in
+    let at-move-on = at-call-in .before .before .before in
+    let at-copy-into = at-move-on .before .before .before .before in
+    let a = at-copy-into .before .before in
     let s = begun a in
     let z = s .args .book .now in
     let n = s .args .n in
@@ -115,16 +139,18 @@ returns c =
     let is = s .pre .0 in
     let rest : n - a .start .result ≡ length (joined (logs a)) = omega (arith, long a) in
     let z1 = after-log z n is (reach a) log (s .pre .2) in
-    let step1 = (c .before .before .before .before .before .before .before .before .before .before .before .before .before .before .before .before .before .before .before .before .before .copy-into .ensures .buffer) ∙ z1 in
-    let z2 = ap₂ (λ (k m : ℕ). with (c .before .before .before .before .before .before .before .before .before .before .before .before .before .before .before .before .before .before .before .before .before .copy-into .last .0) (k + 8) (area (c .before .before .before .before .before .before .before .before .before .before .before .before .before .before .before .before .before .before .before .before .before .copy-into .last .0) k m)) (started a) rest in
-    let step2 = (c .before .before .before .before .before .before .before .before .before .before .before .before .before .before .before .before .before .move-on .ensures) ∙ z2 ∙ after-move z n is (reach a) log (s .pre .2) (c .before .before .before .before .before .before .before .before .before .before .before .before .before .before .before .before .before .before .before .before .before .copy-into .last .0) step1 in
-    let e : (c .before .before .before .before .before .before .before .before .before .before .before .before .before .entry-bytes .result) ≡ entry (n + 8) log = (c .before .before .before .before .before .before .before .before .before .before .before .before .before .entry-bytes .ensures) ∙ ap (λ (k : ℕ). k ∷ 0 ∷ two (length log) ++ four (n + 8)) (c .before .before .before .before .before .before .before .before .before .before .before .before .before .before .call-in .ensures) in
-    let z3 = ap₂ (λ (k : ℕ) (bs : List ℕ). with (c .before .before .before .before .before .before .before .before .before .before .before .before .before .before .before .before .before .move-on .last .0) k bs) (started a) e in
-    let step3 = (c .before .before .before .before .before .before .before .before .before .before .copy-into2 .ensures .buffer) ∙ z3 ∙ after-entry z n is (reach a) log (s .pre .2) (c .before .before .before .before .before .before .before .before .before .before .before .before .before .before .before .before .before .move-on .last .0) step2 in
-    let z4 = ap₂ (λ (k m : ℕ). take 20 (c .before .before .before .before .before .before .before .before .before .before .copy-into2 .last .0) ++ moved (k + 8) m (drop 20 (c .before .before .before .before .before .before .before .before .before .before .copy-into2 .last .0))) (started a) (counted a) in
-    let step4 = (c .before .before .before .before .before .before .put-offsets .ensures) ∙ z4 ∙ after-offsets z n is (reach a) log (s .pre .2) (c .before .before .before .before .before .before .before .before .before .before .copy-into2 .last .0) step3 in
-    let z5 = ap₂ (λ (k m : ℕ). with (c .before .before .before .before .before .before .put-offsets .last .0) 0 (header (k + 1) (m + length log))) (counted a) rest in
-    (c .before .before .put-header .ensures .buffer) ∙ z5 ∙ after-header z n is (reach a) log (s .pre .2) (c .before .before .before .before .before .before .put-offsets .last .0) step4
+    let step1 = (at-copy-into .copy-into .ensures .buffer) ∙ z1 in
+    let z2 = ap₂ (λ (k m : ℕ). with (at-copy-into .copy-into .last .0) (k + 8) (area (at-copy-into .copy-into .last .0) k m)) (started a) rest in
+    let step2 = (at-move-on .move-on .ensures) ∙ z2 ∙ after-move z n is (reach a) log (s .pre .2) (at-copy-into .copy-into .last .0) step1 in
+    let e : (at-entry-bytes .entry-bytes .result) ≡ entry (n + 8) log = (at-entry-bytes .entry-bytes .ensures) ∙ ap (λ (k : ℕ). k ∷ 0 ∷ two
+    (length log) ++ four (n + 8)) (at-call-in .call-in .ensures) in
+    let z3 = ap₂ (λ (k : ℕ) (bs : List ℕ). with (at-move-on .move-on .last .0) k bs) (started a) e in
+    let step3 = (at-copy-into2 .copy-into2 .ensures .buffer) ∙ z3 ∙ after-entry z n is (reach a) log (s .pre .2) (at-move-on .move-on .last .0) step2 in
+    let z4 = ap₂ (λ (k m : ℕ). take 20 (at-copy-into2 .copy-into2 .last .0) ++ moved (k + 8) m (drop 20 (at-copy-into2 .copy-into2 .last .0))) (started a)
+    (counted a) in
+    let step4 = (at-put-offsets .put-offsets .ensures) ∙ z4 ∙ after-offsets z n is (reach a) log (s .pre .2) (at-copy-into2 .copy-into2 .last .0) step3 in
+    let z5 = ap₂ (λ (k m : ℕ). with (at-put-offsets .put-offsets .last .0) 0 (header (k + 1) (m + length log))) (counted a) rest in
+    (at-put-header .put-header .ensures .buffer) ∙ z5 ∙ after-header z n is (reach a) log (s .pre .2) (at-put-offsets .put-offsets .last .0) step4
 
 pub insert-spec : {M : Type 1} → statement M
 insert-spec =

@@ -15,7 +15,9 @@ use Rattle.book.proofs.writer.put_offsets.Statement.{statement}
 use Rattle.book.proofs.writer.put_offsets.Tie as tie
 
 abbrev Inv-loop : tie.InvT-loop
-Inv-loop book₀ count first at₀ i₀ book at i = (i ≤ count) × (at ≤ first + i * 65535) × (length book ≡ length book₀) × (toCome book count i at ≡ take 20 book₀ ++ moved first count (drop 20 book₀))
+Inv-loop book₀ count first at₀ i₀ book at i =
+    (i ≤ count) × (at ≤ first + i * 65535) × (length book ≡ length book₀)
+    × (toCome book count i at ≡ take 20 book₀ ++ moved first count (drop 20 book₀))
 
 abbrev μ-loop : tie.MeasureT-loop
 μ-loop book₀ count first at₀ i₀ book at i = count - i
@@ -27,7 +29,10 @@ log-size-requires : tie.Need-log-size-requires Inv-loop μ-loop
 log-size-requires c κs = search needs
 
 cast-four-bytes : tie.Need-cast-four-bytes Inv-loop μ-loop
-cast-four-bytes c = omega (arith, (c .before .before .before .loop .inv .0), (c .before .before .before .loop .inv .1), (c .before .before .before .before .before .pre))
+cast-four-bytes c =
+    let at-loop = c .before .before .before in
+    let entered = at-loop .before .before in
+    omega (arith, at-loop .loop .inv .0, at-loop .loop .inv .1, entered .pre)
 
 four-bytes-requires : tie.Need-four-bytes-requires Inv-loop μ-loop
 four-bytes-requires c κs = search needs
@@ -45,7 +50,11 @@ copy-into-requires : tie.Need-copy-into-requires Inv-loop μ-loop
 copy-into-requires c κs = search needs
 
 add-at : tie.Need-add-at Inv-loop μ-loop
-add-at c = omega (arith, (c .before .before .before .before .before .before .before .before .before .before .loop .inv .0), (c .before .before .before .before .before .before .before .before .before .before .loop .inv .1), (c .before .before .before .before .before .before .before .log-size .ensures .1), (c .before .before .before .before .before .before .before .before .before .before .before .before .pre))
+add-at c =
+    let at-log-size = c .before .before .before .before .before .before .before in
+    let at-loop = at-log-size .before .before .before in
+    let entered = at-loop .before .before in
+    omega (arith, at-loop .loop .inv .0, at-loop .loop .inv .1, at-log-size .log-size .ensures .1, entered .pre)
 
 add-i : tie.Need-add-i Inv-loop μ-loop
 add-i c = omega arith
@@ -55,13 +64,22 @@ loop-less c = omega arith
 
 loop-again : tie.Need-loop-again Inv-loop μ-loop
 loop-again c =
-    let l = (c .before .before .before .before .before .before .before .before .before .before .loop) in
-    let n = (c .before .before .before .before .before .before .before .before .before .before .before .before .args .count) in
-    let offset : (c .before .before .copy-into .last .0) ≡ with (l .book) (start (l .i) + 4) (four (l .at)) = rw ((c .before .before .before .before .before .before .four-bytes .ensures), (c .before .before .before .before .start .ensures)) at (c .before .before .copy-into .ensures .buffer) in (
+    let at-copy-into = c .before .before in
+    let at-start = at-copy-into .before .before in
+    let at-four-bytes = at-start .before .before in
+    let at-log-size = at-four-bytes .before in
+    let at-loop-test = at-log-size .before .before in
+    let at-loop = at-loop-test .before in
+    let entered = at-loop .before .before in
+    let l = at-loop .loop in
+    let n = entered .args .count in
+    let offset : (at-copy-into .copy-into .last .0) ≡ with (l .book) (start (l .i) + 4) (four (l .at)) = rw
+    ((at-four-bytes .four-bytes .ensures), at-start .start .ensures) at (at-copy-into .copy-into .ensures .buffer) in (
       omega arith,
-      omega (arith, l .inv .1, (c .before .before .before .before .before .before .before .log-size .ensures .1)),
-      omega (arith, (c .before .book .given), l .inv .2),
-      ap₂ (λ (m : List ℕ) (s : ℕ). toCome m n (l .i + 1) (l .at + s)) offset (c .before .before .before .before .before .before .before .log-size .ensures .0) ∙ one-offset (l .book) n (l .i) (l .at) (c .before .before .before .before .before .before .before .before .before .loop-test .taken) (omega (arith, (c .before .before .before .before .before .before .before .before .before .before .before .before .pre .2), l .inv .2)) ∙ l .inv .3,
+      omega (arith, l .inv .1, at-log-size .log-size .ensures .1),
+      omega (arith, c .before .book .given, l .inv .2),
+      ap₂ (λ (m : List ℕ) (s : ℕ). toCome m n (l .i + 1) (l .at + s)) offset (at-log-size .log-size .ensures .0) ∙ one-offset (l .book) n (l .i) (l .at)
+          (at-loop-test .loop-test .taken) (omega (arith, entered .pre .2, l .inv .2)) ∙ l .inv .3,
     )
 
 same-length : tie.Need-same-length Inv-loop μ-loop
