@@ -5,19 +5,18 @@ use mathlib.Core.Bool.{Bool, true, false, cond}
 use mathlib.Core.List.{List, [], _∷_, _++_}
 use mathlib.Core.Path.{_≡_, refl, sym, _∙_, ap, ap₂}
 use lib.Dec.{leb}
-use lib.ListN.{length, getD, take, drop}
+use lib.ListN.{length, take, drop}
 use lib.Seq.{take-at}
 use borrow.Author.Tests.{le-leb, eq-eqb, ne-eqb}
-use Rattle.rules.specs.Lines.{ascii}
 use Rattle.rules.specs.Logs.{area}
-use Rattle.text.specs.Written.{Put, put, counted}
+use Rattle.text.specs.Written.{Put, put}
 use Rattle.exchange.specs.declared.types.Place.{Place}
 use Rattle.bookkeeping.specs.Layout.{logsIn}
 use Rattle.bookkeeping.specs.Summary.{afresh, raised}
 use Rattle.bookkeeping.specs.Book as bookkeeping
 use Rattle.bookkeeping.specs.Book.{isBook, addedTo, add}
 use Rattle.bookkeeping.specs.Said as Said
-use Rattle.bookkeeping.specs.Said.{counterLine, linesFrom, refusal}
+use Rattle.bookkeeping.specs.Said.{linesFrom, refusal}
 use Rattle.bookkeeping.proofs.Books.{came, opened, what-a-book-is, adding-gives-a-book}
 use Rattle.bookkeeping.proofs.Counting.{raises}
 use Rattle.book.specs.Answered as code
@@ -28,7 +27,7 @@ use Rattle.book.specs.declared.summary.Summed.{Summed}
 use Rattle.book.specs.declared.summary.Summed.the-variants as summed
 use Rattle.book.proofs.Promises.{stands, untouched}
 use Rattle.book.proofs.Walks.{sums, no-summary}
-use Rattle.udsbook.specs.Streams.{Adds, Finds, Sums}
+use Rattle.udsbook.specs.Streams.{addedText, Adds, Finds, Sums}
 
 never : {P : Type 0} → _≡_ {A = ℕ} 0 1 → P
 never e = absurd (omega arith)
@@ -48,7 +47,7 @@ summary-of b before after r is long p = p .summary ∙ rw (sums b is, eq-eqb (le
 -- `add`
 module _ (b log buffer before summary z s text said : List ℕ) where
   pub added : (sum : Summed) (m r : ℕ) (e : Entry) → length before ≡ 4176 → code.Sums b before sum summary → code.Adds b log buffer summary (Book m e) z s
-      → Put text 0 (counted (ascii "added") (e .call) ++ counted [] (e .number) ++ (10 ∷ counterLine (e .place) (getD s (e .place) 0))) said r
+      → Put text 0 (addedText (e .call) (e .number) (e .place) s) said r
       → Adds b log (record { out = m; said = r }) z said
   unfolding Said.addOut Said.addSaid
   added sum m r e long p q t =
@@ -57,7 +56,7 @@ module _ (b log buffer before summary z s text said : List ℕ) where
       let now : s ≡ afresh (logsIn (take m z)) =
       k .counted ∙ ap (λ (x : List ℕ). raised x log) (summary-of b before summary sum is long p) ∙ raises b log (take m z) is (k .is)
       in
-      let line : bookkeeping.Added → List ℕ → List ℕ = λ (x : bookkeeping.Added) (c : List ℕ). counted (ascii "added") (x .call) ++ counted [] (x .number) ++ (10 ∷ counterLine (x .place) (getD c (x .place) 0)) in
+      let line : bookkeeping.Added → List ℕ → List ℕ = λ (x : bookkeeping.Added) (c : List ℕ). addedText (x .call) (x .number) (x .place) c in
       record {
         out = ap (Said.addOut b) (sym (k .is));
         report = at-front text said _ r t ∙ ap₂ line (k .told) now ∙ ap (Said.addSaid (addedTo b log)) (sym (k .is));
@@ -100,17 +99,20 @@ module _ (b : List ℕ) (c k : ℕ) where
   unfolding Said.out Said.said
   found-log p said f = record { out = ap Said.out (f .answer); report = ap Said.said (f .answer) }
 
-  pub not-found : (n r : ℕ) (text said : List ℕ) → code.Finds b c k (found.Refused n) → Put text 0 (refusal n) said r → Finds b c k (record { at = 0; len = 0; said = r }) said
+  pub not-found : (n r : ℕ) (text said : List ℕ) → code.Finds b c k (found.Refused n) → Put text 0 (refusal n) said r
+      → Finds b c k (record { at = 0; len = 0; said = r }) said
   unfolding Said.out Said.said
   not-found n r text said f t = record { out = ap Said.out (f .answer); report = at-front text said _ r t ∙ ap Said.said (f .answer) }
 
 -- `summary`
 module _ (b before after : List ℕ) (long : length before ≡ 4176) where
-  by-book : (r : Summed) → code.Sums b before r after → (t : Bool) → isBook b ≡ t → (r ≡ cond t summed.Summary (summed.Refused 25)) × (bookkeeping.summary b ≡ cond t (bookkeeping.gives (afresh (logsIn b))) (bookkeeping.refused 25))
+  by-book : (r : Summed) → code.Sums b before r after → (t : Bool) → isBook b ≡ t
+      → (r ≡ cond t summed.Summary (summed.Refused 25)) × (bookkeeping.summary b ≡ cond t (bookkeeping.gives (afresh (logsIn b))) (bookkeeping.refused 25))
   by-book r p true e = (p .answer ∙ rw (sums b e, eq-eqb (length before) 4176 long), sums b e)
   by-book r p false e = (p .answer ∙ rw (no-summary b e), no-summary b e)
 
-  pub summed-up : (r : ℕ) (l text said : List ℕ) → code.Sums b before summed.Summary after → Put l 0 (linesFrom 0 after) text r → Sums b (record { out = r; said = 0 }) text said
+  pub summed-up : (r : ℕ) (l text said : List ℕ) → code.Sums b before summed.Summary after → Put l 0 (linesFrom 0 after) text r
+      → Sums b (record { out = r; said = 0 }) text said
   unfolding Said.summaryOut Said.said
   summed-up r l text said p t = go (isBook b) refl
     where
@@ -123,7 +125,8 @@ module _ (b before after : List ℕ) (long : length before ≡ 4176) where
           }
       go false e = let z = by-book summed.Summary p false e .0 in never (cc)
 
-  pub no-sum : (n r : ℕ) (l text said : List ℕ) → code.Sums b before (summed.Refused n) after → Put l 0 (refusal n) said r → Sums b (record { out = 0; said = r }) text said
+  pub no-sum : (n r : ℕ) (l text said : List ℕ) → code.Sums b before (summed.Refused n) after → Put l 0 (refusal n) said r
+      → Sums b (record { out = 0; said = r }) text said
   unfolding Said.summaryOut Said.said
   no-sum n r l text said p t = go (isBook b) refl
     where

@@ -1,3 +1,4 @@
 -- Laws behind the proofs of `udsbook`.
 pub mod Texts
 pub mod Holding
+pub mod Digits

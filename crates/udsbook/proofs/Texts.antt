@@ -59,7 +59,8 @@ module _ (l m o k w : List ℕ) (at call number a b r : ℕ) (small : call < 16)
 pub counter : (l m w : List ℕ) (at place number r : ℕ) (c : Class) → (number ≡ 0 → ⊥) → classAt (place % 261) ≡ c → w ≡ spaced (word c)
     → Put l at (rowText (place / 261) w number) m r → Put l at (counterLine place number) m r
 counter l m w at place number r c some is same p =
-    let regroup : decimal (place / 261) ++ (spaced (word c) ++ spaced (decimal number)) ++ (10 ∷ []) ≡ decimal (place / 261) ++ spaced (word c) ++ spaced (decimal number) ++ (10 ∷ []) =
+    let regroup : decimal (place / 261) ++ (spaced (word c) ++ spaced (decimal number)) ++ (10 ∷ []) ≡ decimal (place / 261) ++ spaced (word c) ++ spaced
+    (decimal number) ++ (10 ∷ []) =
     ap (λ (t : List ℕ). t ++ (10 ∷ [])) (sym (append-assoc (decimal (place / 261)) (spaced (word c)) (spaced (decimal number))))
     in
     let line : rowText (place / 261) w number ≡ counterLine place number =
@@ -85,7 +86,8 @@ unfolding linesFrom
 lines-snoc i [] n = rw (add-zero i) (append-nil (counterLine i n))
 lines-snoc i (x ∷ ns) n =
     let on : suc i + length ns ≡ i + suc (length ns) = omega arith in
-    ap (λ (t : List ℕ). counterLine i x ++ t) (lines-snoc (suc i) ns n) ∙ rw on (sym (append-assoc (counterLine i x) (linesFrom (suc i) ns) (counterLine (i + suc (length ns)) n)))
+    ap (λ (t : List ℕ). counterLine i x ++ t) (lines-snoc (suc i) ns n)
+    ∙ rw on (sym (append-assoc (counterLine i x) (linesFrom (suc i) ns) (counterLine (i + suc (length ns)) n)))
 
 pub line-more : (s : List ℕ) (i : ℕ) → i < length s → linesFrom 0 (take i s) ++ counterLine i (getD s i 0) ≡ linesFrom 0 (take (i + 1) s)
 line-more s i h =

@@ -2,8 +2,8 @@
 use Prim.Native.Nat.{ℕ}
 use mathlib.Core.List.{List, [], _∷_, _++_}
 use mathlib.Core.Path.{_≡_}
-use lib.ListN.{take}
-use Rattle.rules.specs.Lines.{decimal}
+use lib.ListN.{getD, take}
+use Rattle.rules.specs.Lines.{ascii, decimal}
 use Rattle.rules.specs.Logs.{area}
 use Rattle.text.specs.Written.{counted}
 use Rattle.bookkeeping.specs.Book as bookkeeping
@@ -14,6 +14,10 @@ use Rattle.udsbook.specs.declared.Piece.{Piece}
 -- "CALL WORD N", the word with its space.
 abbrev pub rowText : ℕ → List ℕ → ℕ → List ℕ
 rowText call word n = decimal call ++ counted word n ++ (10 ∷ [])
+
+-- "added CALL K", and the line of the counter at a place.
+abbrev pub addedText : ℕ → ℕ → ℕ → List ℕ → List ℕ
+addedText call number place summary = counted (ascii "added") call ++ counted [] number ++ (10 ∷ Said.counterLine place (getD summary place 0))
 
 -- `udsbook add`, of a book and a log.
 pub record Adds (b log : List ℕ) (r : Streams) (book said : List ℕ) : Type 0 where

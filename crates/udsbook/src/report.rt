@@ -6,9 +6,9 @@ ghost use mathlib.Core.List.{[], _∷_, _++_};
 ghost use mathlib.Core.Path.{_≡_};
 ghost use lib.ListN.{length, getD};
 ghost use Rattle.rules.specs.Lines.{ascii, decimal, hex, spaced, digit};
-ghost use Rattle.text.specs.Written.{Put, counted};
+ghost use Rattle.text.specs.Written.{Put};
 ghost use Rattle.bookkeeping.specs.Said.{counterLine, linesFrom, refusal};
-ghost use Rattle.udsbook.specs.Streams.{rowText};
+ghost use Rattle.udsbook.specs.Streams.{rowText, addedText};
 
 // So many bytes have room for a line of each counter: a call of two digits, " negative CODE", a number of five digits, two spaces and the newline are 21.
 pub(crate) const LONGEST: usize = 100224;
@@ -130,7 +130,7 @@ fn number_at(summary: &[u16], place: usize) -> u16
 // "added CALL K", and "the summary's line that this log raised, with its new number".
 pub(crate) fn put_added(text: &mut [u8], entry: Entry, summary: &[u16]) -> usize
     requires { ⌜ (length (now summary) ≤ 4176) × (200 ≤ length (now text)) ⌝ }
-    ensures { λ r. ⌜ Put (now (text .entry)) 0 (counted (ascii "added") (entry .call) ++ counted [] (entry .number) ++ (10 ∷ counterLine (entry .place) (getD (now (summary .entry)) (entry .place) 0))) (now (text .exit)) r ⌝ }
+    ensures { λ r. ⌜ Put (now (text .entry)) 0 (addedText (entry .call) (entry .number) (entry .place) (now (summary .entry))) (now (text .exit)) r ⌝ }
 {
     let a = put_counted(text, 0, b"added", entry.call as u64);
     let b = put_counted(text, a, b"", entry.number as u64);

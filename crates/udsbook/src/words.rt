@@ -1,4 +1,6 @@
 // The words that the program is started with: a command, and decimal numbers.
+ghost use mathlib.Core.Path.{_≡_};
+ghost use Rattle.udsbook.specs.Words.{numberIn};
 
 pub(crate) enum Command {
     New,
@@ -54,7 +56,9 @@ pub(crate) fn command_of(word: &[u8], words: usize) -> Command {
 }
 
 // "CALL and K decimal, up to 2^64 - 1"
-pub(crate) fn number_in(word: &[u8]) -> Number {
+pub(crate) fn number_in(word: &[u8]) -> Number
+    ensures { λ r. ⌜ r ≡ numberIn (now (word .entry)) ⌝ }
+{
     if word.len() == 0 {
         return Number::NoNumber;
     }

@@ -22,15 +22,19 @@ enum-known-m c = search needs
 
 put-added-requires : tie.Need-put-added-requires
 put-added-requires c κs =
+    let at-summary2 = c .before .before .before .before .before .before in
     let a = c .before .before .before .before .before .before .before .before .before in
     let start = a .before .before .before .before .before .before .before .before .before .before .before .before .before in
-    (omega (arith, c .before .before .before .before .before .before .summary2 .given, a .before .before .before .before .summary .given, start .pre .1), start .pre .2)
+    (omega (arith, at-summary2 .summary2 .given, a .before .before .before .before .summary .given, start .pre .1), start .pre .2)
 
 enum-known-number : tie.Need-enum-known-number
 enum-known-number c = search needs
 
 put-refusal-requires : tie.Need-put-refusal-requires
-put-refusal-requires c κs = c .before .before .before .before .before .before .before .before .before .before .before .before .before .before .before .before .before .before .before .before .before .pre .2
+put-refusal-requires c κs =
+    let start = c .before .before .before .before .before .before .before .before .before .before .before .before .before .before .before .before .before
+    .before .before .before .before in
+    start .pre .2
 
 same-length : tie.Need-same-length
 same-length c = search needs
@@ -50,7 +54,8 @@ returns c =
     let start = s .before .before .before .before .before .before .before .before in
     let x = start .args in
     let book = take (x .n) (x .book .now) in
-    refused-25 book (x .log .now) (x .book .now) (x .summary .now) (s .summarize .last .1 .0) (a .add .last .0) (a .add .last .1 .1 .1 .0) (x .said .now) (put .put-refusal .last .0) (x .n)
+    refused-25 book (x .log .now) (x .book .now) (x .summary .now) (s .summarize .last .1 .0) (a .add .last .0) (a .add .last .1 .1 .1 .0) (x .said .now)
+    (put .put-refusal .last .0) (x .n)
     (number .0 .0) (put .put-refusal .result) (rw (number .1) at (a .add .ensures)) (put .put-refusal .ensures) (c .if1 .taken)
 
 enum-told : tie.Need-enum-told
@@ -74,7 +79,8 @@ returns-2 c =
     let start = s .before .before .before .before .before .before .before .before in
     let x = start .args in
     let book = take (x .n) (x .book .now) in
-    added book (x .log .now) (x .book .now) (x .summary .now) (s .summarize .last .1 .0) (a .add .last .0) (a .add .last .1 .1 .1 .0) (x .said .now) (put .put-added .last .0) (s .summarize .result)
+    added book (x .log .now) (x .book .now) (x .summary .now) (s .summarize .last .1 .0) (a .add .last .0) (a .add .last .1 .1 .1 .0) (x .said .now)
+    (put .put-added .last .0) (s .summarize .result)
     (m .0 .0) (put .put-added .result) (m .0 .1 .0) (start .pre .1) (rw (s .before .before .part .ensures) at (s .summarize .ensures))
     (rw (m .1) at (a .add .ensures)) (put .put-added .ensures)
 
@@ -96,7 +102,8 @@ returns-3 c =
     let start = s .before .before .before .before .before .before .before .before in
     let x = start .args in
     let book = take (x .n) (x .book .now) in
-    refused book (x .log .now) (x .book .now) (x .summary .now) (s .summarize .last .1 .0) (a .add .last .0) (a .add .last .1 .1 .1 .0) (x .said .now) (put .put-refusal .last .0) (x .n)
+    refused book (x .log .now) (x .book .now) (x .summary .now) (s .summarize .last .1 .0) (a .add .last .0) (a .add .last .1 .1 .1 .0) (x .said .now)
+    (put .put-refusal .last .0) (x .n)
     (number .0 .0) (put .put-refusal .result) (rw (number .1) at (a .add .ensures)) (put .put-refusal .ensures) (c .if1 .left) refl
 
 same-length-10 : tie.Need-same-length-10
@@ -112,7 +119,8 @@ returns-4 c =
     let start = s .before .before .before .before .before .before .before .before in
     let x = start .args in
     let book = take (x .n) (x .book .now) in
-    absurd (room-enough book (x .log .now) (x .book .now) (x .summary .now) (s .summarize .last .1 .0) (a .add .last .0) (a .add .last .1 .1 .1 .0) (x .said .now) (x .said .now)
+    absurd (room-enough book (x .log .now) (x .book .now) (x .summary .now) (s .summarize .last .1 .0) (a .add .last .0) (a .add .last .1 .1 .1 .0)
+    (x .said .now) (x .said .now)
     (start .pre .0) (rw (c .enum-told .given .1) at (a .add .ensures)))
 
 pub add-log-spec : {M : Type 1} → statement M

@@ -34,7 +34,8 @@ returns c =
     let s = put .before .before .before .before .before .before .before in
     let start = s .before .before .before .before .before .before in
     let x = start .args in
-    summed-up (x .book .now) (x .summary .now) (s .summarize .last .1 .0) (start .pre .0) (put .put-summary .result) (x .text .now) (put .put-summary .last .0) (x .said .now)
+    summed-up (x .book .now) (x .summary .now) (s .summarize .last .1 .0) (start .pre .0) (put .put-summary .result) (x .text .now)
+    (put .put-summary .last .0) (x .said .now)
     (rw (put .before .before .before .enum-told .given .1) at (s .summarize .ensures)) (put .put-summary .ensures)
 
 same-length-3 : tie.Need-same-length-3
@@ -60,7 +61,8 @@ returns-3 : tie.Need-returns-3
 returns-3 c =
     let s = c .before .before .before .before in
     let start = s .before .before .before .before .before .before in
-    absurd (never-short (start .args .book .now) (start .args .summary .now) (s .summarize .last .1 .0) (start .pre .0) (rw (c .enum-told2 .given .1) at (s .summarize .ensures)))
+    absurd (never-short (start .args .book .now) (start .args .summary .now) (s .summarize .last .1 .0) (start .pre .0) (rw (c .enum-told2 .given .1) at
+    (s .summarize .ensures)))
 
 pub sum-up-spec : {M : Type 1} → statement M
 sum-up-spec =

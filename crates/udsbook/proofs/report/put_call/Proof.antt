@@ -22,15 +22,25 @@ digit-requires : tie.Need-digit-requires
 digit-requires c κs = search needs
 
 put-byte-requires-2 : tie.Need-put-byte-requires-2
-put-byte-requires-2 c κs = omega (arith, (c .before .before .before .before .before .before .before .before .pre .1), (c .before .before .before .before .put-byte .ensures .next), (c .before .before .before .text .given))
+put-byte-requires-2 c κs =
+    let at-text = c .before .before .before in
+    let at-put-byte = at-text .before in
+    let start = at-put-byte .before .before .before .before in
+    omega (arith, start .pre .1, at-put-byte .put-byte .ensures .next, at-text .text .given)
 
 same-length : tie.Need-same-length
 same-length c = search needs
 
 returns : tie.Need-returns
 returns c =
-    let both = then (omega (arith, (c .before .before .before .before .before .before .before .before .before .before .before .pre .1), (c .before .before .before .before .before .before .before .put-byte .ensures .next))) (c .before .before .before .before .before .before .before .put-byte .ensures) (rw (c .before .before .before .digit .ensures) at (c .before .before .put-byte2 .ensures)) in
-    rw (two-digits (c .before .before .before .before .before .before .before .before .before .before .before .args .call) (c .before .before .before .before .before .before .before .before .before .if1 .taken) (c .before .before .before .before .before .before .before .before .before .before .before .pre .0)) both
+    let at-put-byte2 = c .before .before in
+    let at-digit = at-put-byte2 .before in
+    let at-put-byte = at-digit .before .before .before .before in
+    let at-if1 = at-put-byte .before .before in
+    let start = at-if1 .before .before in
+    let both = then (omega (arith, start .pre .1, at-put-byte .put-byte .ensures .next)) (at-put-byte .put-byte .ensures) (rw (at-digit .digit .ensures) at
+    (at-put-byte2 .put-byte2 .ensures)) in
+    rw (two-digits (start .args .call) (at-if1 .if1 .taken) (start .pre .0)) both
 
 cast-digit-2 : tie.Need-cast-digit-2
 cast-digit-2 c = search needs
@@ -45,7 +55,12 @@ same-length-2 : tie.Need-same-length-2
 same-length-2 c = search needs
 
 returns-2 : tie.Need-returns-2
-returns-2 c = rw (one-digit (c .before .before .before .before .before .before .before .args .call) (omega (arith, (c .before .before .before .before .before .if1 .left)))) (rw (c .before .before .before .digit2 .ensures) at (c .before .before .put-byte3 .ensures))
+returns-2 c =
+    let at-put-byte3 = c .before .before in
+    let at-digit2 = at-put-byte3 .before in
+    let at-if1 = at-digit2 .before .before in
+    let start = at-if1 .before .before in
+    rw (one-digit (start .args .call) (omega (arith, at-if1 .if1 .left))) (rw (at-digit2 .digit2 .ensures) at (at-put-byte3 .put-byte3 .ensures))
 
 pub put-call-spec : {M : Type 1} → statement M
 put-call-spec =

@@ -12,21 +12,33 @@ use Rattle.udsbook.proofs.report.put_counter.Statement.{statement}
 use Rattle.udsbook.proofs.report.put_counter.Tie as tie
 
 returns : tie.Need-returns
-returns c = let x = (c .before .before .args) in (no-counter (x .text .now) (x .at) (x .place) (x .number) (c .if1 .taken) (none (x .text .now) (x .at)), omega arith)
+returns c =
+    let start = c .before .before in
+    let x = start .args in (no-counter (x .text .now) (x .at) (x .place) (x .number) (c .if1 .taken) (none (x .text .now) (x .at)), omega arith)
 
 slice-aggregate-put-row : tie.Need-slice-aggregate-put-row
 slice-aggregate-put-row c = search needs
 
 put-row-requires : tie.Need-put-row-requires
-put-row-requires c κs = (omega (arith, (c .before .before .before .before .before .pre .0) (omega (arith, (c .before .before .before .if1 .left)))), omega (arith, (c .before .before .before .before .before .pre .1)))
+put-row-requires c κs =
+    let at-if1 = c .before .before .before in
+    let start = at-if1 .before .before in
+    (omega (arith, (start .pre .0) (omega (arith, at-if1 .if1 .left))), omega (arith, start .pre .1))
 
 same-length : tie.Need-same-length
 same-length c = search needs
 
 returns-2 : tie.Need-returns-2
 returns-2 c =
-    let x = (c .before .before .before .before .before .before .before .before .args) in
-    (counter (x .text .now) (c .before .before .put-row .last .0) _ (x .at) (x .place) (x .number) (c .before .before .put-row .result) positive (c .before .before .before .before .before .before .if1 .left) (ap classAt (c .before .before .before .before .before .if2 .taken)) refl ((c .before .before .put-row .ensures .0)), omega (arith, (c .before .before .put-row .ensures .1)))
+    let at-put-row = c .before .before in
+    let at-if2 = at-put-row .before .before .before in
+    let at-if1 = at-if2 .before in
+    let start = at-if1 .before .before in
+    let x = start .args in (
+      counter (x .text .now) (at-put-row .put-row .last .0) _ (x .at) (x .place) (x .number) (at-put-row .put-row .result) positive (at-if1 .if1 .left)
+          (ap classAt (at-if2 .if2 .taken)) refl (at-put-row .put-row .ensures .0),
+      omega (arith, at-put-row .put-row .ensures .1),
+    )
 
 sub-negative : tie.Need-sub-negative
 sub-negative c = search needs
@@ -41,75 +53,146 @@ slice-aggregate-put-row-2 : tie.Need-slice-aggregate-put-row-2
 slice-aggregate-put-row-2 c = search needs
 
 put-row-requires-2 : tie.Need-put-row-requires-2
-put-row-requires-2 c κs = (omega (arith, (c .before .before .before .before .before .before .before .pre .0) (omega (arith, (c .before .before .before .before .before .if1 .left)))), omega (arith, (c .before .before .before .before .before .before .before .pre .1), ap (λ (w : List ℕ). length w) (c .before .before .negative .ensures)))
+put-row-requires-2 c κs =
+    let at-negative = c .before .before in
+    let at-if1 = at-negative .before .before .before in
+    let start = at-if1 .before .before in (
+      omega (arith, (start .pre .0) (omega (arith, at-if1 .if1 .left))),
+      omega (
+        arith,
+        start .pre .1,
+        ap (λ (w : List ℕ). length w)
+            (at-negative .negative .ensures),
+      ),
+    )
 
 same-length-2 : tie.Need-same-length-2
 same-length-2 c = search needs
 
 returns-3 : tie.Need-returns-3
 returns-3 c =
-    let x = (c .before .before .before .before .before .before .before .before .before .before .args) in
+    let at-put-row2 = c .before .before in
+    let at-negative = at-put-row2 .before .before .before in
+    let at-if3 = at-negative .before in
+    let at-if2 = at-if3 .before in
+    let at-if1 = at-if2 .before in
+    let start = at-if1 .before .before in
+    let x = start .args in
     let i = x .place % 261 in
-    let is = is-negative i (omega (arith, (c .before .before .before .before .before .before .before .if2 .left))) (c .before .before .before .before .before .before .if3 .taken) in
-    (counter (x .text .now) (c .before .before .put-row2 .last .0) _ (x .at) (x .place) (x .number) (c .before .before .put-row2 .result) (negative (i - 1)) (c .before .before .before .before .before .before .before .before .if1 .left) is (c .before .before .before .before .before .negative .ensures) ((c .before .before .put-row2 .ensures .0)), omega (arith, (c .before .before .put-row2 .ensures .1), ap (λ (w : List ℕ). length w) (c .before .before .before .before .before .negative .ensures)))
+    let is = is-negative i (omega (arith, at-if2 .if2 .left)) (at-if3 .if3 .taken) in (
+      counter (x .text .now) (at-put-row2 .put-row2 .last .0) _ (x .at) (x .place) (x .number) (at-put-row2 .put-row2 .result) (negative (i - 1))
+          (at-if1 .if1 .left) is (at-negative .negative .ensures) (at-put-row2 .put-row2 .ensures .0),
+      omega (
+        arith,
+        at-put-row2 .put-row2 .ensures .1,
+        ap (λ
+            (w : List ℕ). length w) (at-negative .negative .ensures),
+      ),
+    )
 
 slice-aggregate-put-row-3 : tie.Need-slice-aggregate-put-row-3
 slice-aggregate-put-row-3 c = search needs
 
 put-row-requires-3 : tie.Need-put-row-requires-3
-put-row-requires-3 c κs = (omega (arith, (c .before .before .before .before .before .before .before .pre .0) (omega (arith, (c .before .before .before .before .before .if1 .left)))), omega (arith, (c .before .before .before .before .before .before .before .pre .1)))
+put-row-requires-3 c κs =
+    let at-if1 = c .before .before .before .before .before in
+    let start = at-if1 .before .before in
+    (omega (arith, (start .pre .0) (omega (arith, at-if1 .if1 .left))), omega (arith, start .pre .1))
 
 same-length-3 : tie.Need-same-length-3
 same-length-3 c = search needs
 
 returns-4 : tie.Need-returns-4
 returns-4 c =
-    let x = (c .before .before .before .before .before .before .before .before .before .before .args) in
-    (counter (x .text .now) (c .before .before .put-row3 .last .0) _ (x .at) (x .place) (x .number) (c .before .before .put-row3 .result) suppressed (c .before .before .before .before .before .before .before .before .if1 .left) (is-last (x .place % 261) 0 suppressed (c .before .before .before .before .before .if4 .taken) refl) refl ((c .before .before .put-row3 .ensures .0)), omega (arith, (c .before .before .put-row3 .ensures .1)))
+    let at-put-row3 = c .before .before in
+    let at-if4 = at-put-row3 .before .before .before in
+    let at-if1 = at-if4 .before .before .before in
+    let start = at-if1 .before .before in
+    let x = start .args in (
+      counter (x .text .now) (at-put-row3 .put-row3 .last .0) _ (x .at) (x .place) (x .number) (at-put-row3 .put-row3 .result) suppressed (at-if1 .if1 .left)
+          (is-last (x .place % 261) 0 suppressed (at-if4 .if4 .taken) refl) refl (at-put-row3 .put-row3 .ensures .0),
+      omega
+          (arith, at-put-row3 .put-row3 .ensures .1),
+    )
 
 slice-aggregate-put-row-4 : tie.Need-slice-aggregate-put-row-4
 slice-aggregate-put-row-4 c = search needs
 
 put-row-requires-4 : tie.Need-put-row-requires-4
-put-row-requires-4 c κs = (omega (arith, (c .before .before .before .before .before .before .before .before .pre .0) (omega (arith, (c .before .before .before .before .before .before .if1 .left)))), omega (arith, (c .before .before .before .before .before .before .before .before .pre .1)))
+put-row-requires-4 c κs =
+    let at-if1 = c .before .before .before .before .before .before in
+    let start = at-if1 .before .before in
+    (omega (arith, (start .pre .0) (omega (arith, at-if1 .if1 .left))), omega (arith, start .pre .1))
 
 same-length-4 : tie.Need-same-length-4
 same-length-4 c = search needs
 
 returns-5 : tie.Need-returns-5
 returns-5 c =
-    let x = (c .before .before .before .before .before .before .before .before .before .before .before .args) in
-    (counter (x .text .now) (c .before .before .put-row4 .last .0) _ (x .at) (x .place) (x .number) (c .before .before .put-row4 .result) timedOut (c .before .before .before .before .before .before .before .before .before .if1 .left) (is-last (x .place % 261) 1 timedOut (c .before .before .before .before .before .if5 .taken) refl) refl ((c .before .before .put-row4 .ensures .0)), omega (arith, (c .before .before .put-row4 .ensures .1)))
+    let at-put-row4 = c .before .before in
+    let at-if5 = at-put-row4 .before .before .before in
+    let at-if1 = at-if5 .before .before .before .before in
+    let start = at-if1 .before .before in
+    let x = start .args in (
+      counter (x .text .now) (at-put-row4 .put-row4 .last .0) _ (x .at) (x .place) (x .number) (at-put-row4 .put-row4 .result) timedOut (at-if1 .if1 .left)
+          (is-last (x .place % 261) 1 timedOut (at-if5 .if5 .taken) refl) refl (at-put-row4 .put-row4 .ensures .0),
+      omega
+          (arith, at-put-row4 .put-row4 .ensures .1),
+    )
 
 slice-aggregate-put-row-5 : tie.Need-slice-aggregate-put-row-5
 slice-aggregate-put-row-5 c = search needs
 
 put-row-requires-5 : tie.Need-put-row-requires-5
-put-row-requires-5 c κs = (omega (arith, (c .before .before .before .before .before .before .before .before .before .pre .0) (omega (arith, (c .before .before .before .before .before .before .before .if1 .left)))), omega (arith, (c .before .before .before .before .before .before .before .before .before .pre .1)))
+put-row-requires-5 c κs =
+    let at-if1 = c .before .before .before .before .before .before .before in
+    let start = at-if1 .before .before in
+    (omega (arith, (start .pre .0) (omega (arith, at-if1 .if1 .left))), omega (arith, start .pre .1))
 
 same-length-5 : tie.Need-same-length-5
 same-length-5 c = search needs
 
 returns-6 : tie.Need-returns-6
 returns-6 c =
-    let x = (c .before .before .before .before .before .before .before .before .before .before .before .before .args) in
-    (counter (x .text .now) (c .before .before .put-row5 .last .0) _ (x .at) (x .place) (x .number) (c .before .before .put-row5 .result) deviating (c .before .before .before .before .before .before .before .before .before .before .if1 .left) (is-last (x .place % 261) 2 deviating (c .before .before .before .before .before .if6 .taken) refl) refl ((c .before .before .put-row5 .ensures .0)), omega (arith, (c .before .before .put-row5 .ensures .1)))
+    let at-put-row5 = c .before .before in
+    let at-if6 = at-put-row5 .before .before .before in
+    let at-if1 = at-if6 .before .before .before .before .before in
+    let start = at-if1 .before .before in
+    let x = start .args in (
+      counter (x .text .now) (at-put-row5 .put-row5 .last .0) _ (x .at) (x .place) (x .number) (at-put-row5 .put-row5 .result) deviating (at-if1 .if1 .left)
+          (is-last (x .place % 261) 2 deviating (at-if6 .if6 .taken) refl) refl (at-put-row5 .put-row5 .ensures .0),
+      omega
+          (arith, at-put-row5 .put-row5 .ensures .1),
+    )
 
 slice-aggregate-put-row-6 : tie.Need-slice-aggregate-put-row-6
 slice-aggregate-put-row-6 c = search needs
 
 put-row-requires-6 : tie.Need-put-row-requires-6
-put-row-requires-6 c κs = (omega (arith, (c .before .before .before .before .before .before .before .before .before .pre .0) (omega (arith, (c .before .before .before .before .before .before .before .if1 .left)))), omega (arith, (c .before .before .before .before .before .before .before .before .before .pre .1)))
+put-row-requires-6 c κs =
+    let at-if1 = c .before .before .before .before .before .before .before in
+    let start = at-if1 .before .before in
+    (omega (arith, (start .pre .0) (omega (arith, at-if1 .if1 .left))), omega (arith, start .pre .1))
 
 same-length-6 : tie.Need-same-length-6
 same-length-6 c = search needs
 
 returns-7 : tie.Need-returns-7
 returns-7 c =
-    let x = (c .before .before .before .before .before .before .before .before .before .before .before .before .args) in
+    let at-put-row6 = c .before .before in
+    let at-if6 = at-put-row6 .before .before .before in
+    let at-if5 = at-if6 .before in
+    let at-if4 = at-if5 .before in
+    let at-if3 = at-if4 .before in
+    let at-if1 = at-if3 .before .before in
+    let start = at-if1 .before .before in
+    let x = start .args in
     let i = x .place % 261 in
-    let last : i ≡ 257 + 3 = omega (arith, (c .before .before .before .before .before .before .before .before .if3 .left), (c .before .before .before .before .before .before .before .if4 .left), (c .before .before .before .before .before .before .if5 .left), (c .before .before .before .before .before .if6 .left)) in
-    (counter (x .text .now) (c .before .before .put-row6 .last .0) _ (x .at) (x .place) (x .number) (c .before .before .put-row6 .result) other (c .before .before .before .before .before .before .before .before .before .before .if1 .left) (is-last i 3 other last refl) refl ((c .before .before .put-row6 .ensures .0)), omega (arith, (c .before .before .put-row6 .ensures .1)))
+    let last : i ≡ 257 + 3 = omega (arith, at-if3 .if3 .left, at-if4 .if4 .left, at-if5 .if5 .left, at-if6 .if6 .left) in (
+      counter (x .text .now) (at-put-row6 .put-row6 .last .0) _ (x .at) (x .place) (x .number) (at-put-row6 .put-row6 .result) other (at-if1 .if1 .left)
+          (is-last i 3 other last refl) refl (at-put-row6 .put-row6 .ensures .0),
+      omega (arith, at-put-row6 .put-row6 .ensures .1),
+    )
 
 pub put-counter-spec : {M : Type 1} → statement M
 put-counter-spec =

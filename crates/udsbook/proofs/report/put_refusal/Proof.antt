@@ -19,20 +19,26 @@ put-counted-requires c κs = search needs
 
 put-byte-requires : tie.Need-put-byte-requires
 put-byte-requires c κs =
-    let x = (c .before .before .before .before .before .before .before .args) in
+    let at-text = c .before .before in
+    let at-put-counted = at-text .before in
+    let start = at-put-counted .before .before .before .before in
+    let x = start .args in
     let word = counted (ascii "refused") (x .number) in
-    let put = was-put word (x .text .now) 0 (omega (arith, (c .before .before .before .before .before .before .before .pre), five-digits (x .number) (omega arith))) (c .before .before .before .put-counted .ensures) in
-    omega (arith, put .next, (c .before .before .before .before .before .before .before .pre), (c .before .before .text .given), five-digits (x .number) (omega arith))
+    let put = was-put word (x .text .now) 0 (omega (arith, start .pre, five-digits (x .number) (omega arith))) (at-put-counted .put-counted .ensures) in
+    omega (arith, put .next, start .pre, at-text .text .given, five-digits (x .number) (omega arith))
 
 same-length : tie.Need-same-length
 same-length c = search needs
 
 returns : tie.Need-returns
 returns c =
-    let x = (c .before .before .before .before .before .before .before .before .before .before .args) in
+    let at-put-byte = c .before .before in
+    let at-put-counted = at-put-byte .before .before .before .before in
+    let start = at-put-counted .before .before .before .before in
+    let x = start .args in
     let word = counted (ascii "refused") (x .number) in
-    let put = was-put word (x .text .now) 0 (omega (arith, (c .before .before .before .before .before .before .before .before .before .before .pre), five-digits (x .number) (omega arith))) (c .before .before .before .before .before .before .put-counted .ensures) in
-    then (omega (arith, put .next, (c .before .before .before .before .before .before .before .before .before .before .pre), five-digits (x .number) (omega arith))) put (c .before .before .put-byte .ensures)
+    let put = was-put word (x .text .now) 0 (omega (arith, start .pre, five-digits (x .number) (omega arith))) (at-put-counted .put-counted .ensures) in
+    then (omega (arith, put .next, start .pre, five-digits (x .number) (omega arith))) put (at-put-byte .put-byte .ensures)
 
 pub put-refusal-spec : {M : Type 1} → statement M
 put-refusal-spec =

@@ -15,19 +15,37 @@ put-counted-requires c κs = search needs
 
 put-byte-requires : tie.Need-put-byte-requires
 put-byte-requires c κs =
-    let x = (c .before .before .before .before .before .before .before .before .before .before .before .args) in
-    let end = before-newline (x .text .now) (c .before .before .before .before .before .before .before .put-call .last .0) (c .before .before .before .put-counted .last .0) (c .before .before .before .put-counted .last .0) (x .word .now) (x .at) (x .call) (x .number) (c .before .before .before .before .before .before .before .put-call .result) (c .before .before .before .put-counted .result) 0 (c .before .before .before .before .before .before .before .before .before .before .before .pre .0) (omega arith) (c .before .before .before .before .before .before .before .before .before .before .before .pre .1) (c .before .before .before .before .before .before .before .put-call .ensures) (omega (arith, (c .before .before .before .before .before .before .text .given))) (c .before .before .before .put-counted .ensures) in
-    omega (arith, end, (c .before .before .before .before .before .before .before .before .before .before .before .pre .1), (c .before .before .before .before .before .before .text .given), (c .before .before .text2 .given))
+    let at-text2 = c .before .before in
+    let at-put-counted = at-text2 .before in
+    let at-text = at-put-counted .before .before .before in
+    let at-put-call = at-text .before in
+    let start = at-put-call .before .before .before .before in
+    let x = start .args in
+    let end = before-newline (x .text .now) (at-put-call .put-call .last .0) (at-put-counted .put-counted .last .0) (at-put-counted .put-counted .last .0)
+    (x .word .now) (x .at) (x .call) (x .number) (at-put-call .put-call .result) (at-put-counted .put-counted .result) 0 (start .pre .0) (omega arith)
+    (start .pre .1) (at-put-call .put-call .ensures) (omega (arith, at-text .text .given)) (at-put-counted .put-counted .ensures) in
+    omega (arith, end, start .pre .1, at-text .text .given, at-text2 .text2 .given)
 
 same-length : tie.Need-same-length
 same-length c = search needs
 
 returns : tie.Need-returns
 returns c =
-    let x = (c .before .before .before .before .before .before .before .before .before .before .before .before .before .before .args) in
-    let end = before-newline (x .text .now) (c .before .before .before .before .before .before .before .before .before .before .put-call .last .0) (c .before .before .before .before .before .before .put-counted .last .0) (c .before .before .before .before .before .before .put-counted .last .0) (x .word .now) (x .at) (x .call) (x .number) (c .before .before .before .before .before .before .before .before .before .before .put-call .result) (c .before .before .before .before .before .before .put-counted .result) 0 (c .before .before .before .before .before .before .before .before .before .before .before .before .before .before .pre .0) (omega arith) (c .before .before .before .before .before .before .before .before .before .before .before .before .before .before .pre .1) (c .before .before .before .before .before .before .before .before .before .before .put-call .ensures) (omega (arith, (c .before .before .before .before .before .before .before .before .before .text .given))) (c .before .before .before .before .before .before .put-counted .ensures) in (
-      row (x .text .now) (c .before .before .before .before .before .before .before .before .before .before .put-call .last .0) (c .before .before .before .before .before .before .put-counted .last .0) (c .before .before .put-byte .last .0) (x .word .now) (x .at) (x .call) (x .number) (c .before .before .before .before .before .before .before .before .before .before .put-call .result) (c .before .before .before .before .before .before .put-counted .result) (c .before .before .put-byte .result) (c .before .before .before .before .before .before .before .before .before .before .before .before .before .before .pre .0) (omega arith) (c .before .before .before .before .before .before .before .before .before .before .before .before .before .before .pre .1) (c .before .before .before .before .before .before .before .before .before .before .put-call .ensures) (omega (arith, (c .before .before .before .before .before .before .before .before .before .text .given))) (c .before .before .before .before .before .before .put-counted .ensures) (omega (arith, (c .before .before .before .before .before .before .before .before .before .text .given), (c .before .before .before .before .before .text2 .given))) (c .before .before .put-byte .ensures),
-      omega (arith, end, (c .before .before .put-byte .ensures .next)),
+    let at-put-byte = c .before .before in
+    let at-text2 = at-put-byte .before .before .before in
+    let at-put-counted = at-text2 .before in
+    let at-text = at-put-counted .before .before .before in
+    let at-put-call = at-text .before in
+    let start = at-put-call .before .before .before .before in
+    let x = start .args in
+    let end = before-newline (x .text .now) (at-put-call .put-call .last .0) (at-put-counted .put-counted .last .0) (at-put-counted .put-counted .last .0)
+    (x .word .now) (x .at) (x .call) (x .number) (at-put-call .put-call .result) (at-put-counted .put-counted .result) 0 (start .pre .0) (omega arith)
+    (start .pre .1) (at-put-call .put-call .ensures) (omega (arith, at-text .text .given)) (at-put-counted .put-counted .ensures) in (
+      row (x .text .now) (at-put-call .put-call .last .0) (at-put-counted .put-counted .last .0) (at-put-byte .put-byte .last .0) (x .word .now) (x .at)
+          (x .call) (x .number) (at-put-call .put-call .result) (at-put-counted .put-counted .result) (at-put-byte .put-byte .result) (start .pre .0)
+          (omega arith) (start .pre .1) (at-put-call .put-call .ensures) (omega (arith, at-text .text .given)) (at-put-counted .put-counted .ensures) (omega
+          (arith, at-text .text .given, at-text2 .text2 .given)) (at-put-byte .put-byte .ensures),
+      omega (arith, end, at-put-byte .put-byte .ensures .next),
     )
 
 pub put-row-spec : {M : Type 1} → statement M

@@ -29,7 +29,14 @@ shared-slice-read-put-counter : tie.Need-shared-slice-read-put-counter Inv-loop 
 shared-slice-read-put-counter c = omega arith
 
 put-counter-requires : tie.Need-put-counter-requires Inv-loop μ-loop
-put-counter-requires c κs = (λ _. omega (arith, (c .before .before .before .before .before .before .pre .0), (c .before .before .loop-test .taken)), omega (arith, (c .before .before .before .loop .inv .1), (c .before .before .before .loop .inv .2), (c .before .before .before .before .before .before .pre .0), (c .before .before .before .before .before .before .pre .1), (c .before .before .loop-test .taken)))
+put-counter-requires c κs =
+    let at-loop-test = c .before .before in
+    let at-loop = at-loop-test .before in
+    let start = at-loop .before .before .before in (
+      λ _. omega (arith, start .pre .0, at-loop-test .loop-test .taken),
+      omega
+          (arith, at-loop .loop .inv .1, at-loop .loop .inv .2, start .pre .0, start .pre .1, at-loop-test .loop-test .taken),
+    )
 
 add-i : tie.Need-add-i Inv-loop μ-loop
 add-i c = omega arith
@@ -39,13 +46,18 @@ loop-less c = omega arith
 
 loop-again : tie.Need-loop-again Inv-loop μ-loop
 loop-again c =
-    let x = (c .before .before .before .before .before .before .before .before .before .args) in
-    let l = (c .before .before .before .before .before .before .loop) in
-    let put = then (omega (arith, l .inv .2, (c .before .before .before .before .before .before .before .before .before .pre .0), (c .before .before .before .before .before .before .before .before .before .pre .1), (c .before .before .before .before .before .loop-test .taken))) (l .inv .3) ((c .before .before .put-counter .ensures .0)) in (
+    let at-put-counter = c .before .before in
+    let at-loop-test = at-put-counter .before .before .before in
+    let at-loop = at-loop-test .before in
+    let start = at-loop .before .before .before in
+    let x = start .args in
+    let l = at-loop .loop in
+    let put = then (omega (arith, l .inv .2, start .pre .0, start .pre .1, at-loop-test .loop-test .taken)) (l .inv .3)
+    (at-put-counter .put-counter .ensures .0) in (
       omega arith,
-      omega (arith, l .inv .1, (c .before .text .given)),
-      omega (arith, l .inv .2, (c .before .before .put-counter .ensures .1)),
-      rw (← (line-more (x .summary .now) (l .i) (c .before .before .before .before .before .loop-test .taken))) put,
+      omega (arith, l .inv .1, c .before .text .given),
+      omega (arith, l .inv .2, at-put-counter .put-counter .ensures .1),
+      rw (← (line-more (x .summary .now) (l .i) (at-loop-test .loop-test .taken))) put,
     )
 
 same-length : tie.Need-same-length Inv-loop μ-loop
