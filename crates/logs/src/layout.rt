@@ -49,7 +49,7 @@ fn uses_of(call: u8) -> Uses
     }
 }
 
-fn all(tests: &[bool]) -> bool
+pub fn all(tests: &[bool]) -> bool
     ensures { λ r. ⌜ r ≡ all (now (tests .entry)) ⌝ }
 {
     let mut i = 0;

@@ -4,39 +4,16 @@ use native.Mathlib.Omega.{arith}
 use mathlib.Core.Bool.{true}
 use mathlib.Core.List.{List, [], _∷_, _++_}
 use mathlib.Core.Path.{_≡_}
-use lib.ListN.{length, drop}
-use borrow.Author.Tests.{lt-ltb}
+use lib.ListN.{length}
 use Rattle.rules.specs.Bytes.{u16At, two, four, every, isByte}
 use Rattle.rules.specs.Events.{Form, plain, addressed, eventSize}
-use Rattle.rules.specs.Logs.{Header, headerSize, formIn, moved, listensAt9, headerOf, area}
+use Rattle.rules.specs.Logs.{Header, headerSize, formIn, moved, listensAt9, headerOf}
 use Rattle.rules.specs.Writing.{putHeaderIn}
-use Rattle.rules.proofs.Judging.{both}
 use Rattle.rules.proofs.Opened.{byte-at}
-use Rattle.rules.proofs.Writing.{every-drop, every-take}
+use Rattle.rules.proofs.OfBytes.{Bytes, byte-on, two-on, four-on, list-on, bytes-area}
+use Rattle.rules.proofs.Writing.{every-take}
 use Rattle.mending.specs.Mend.{argumentsIn, eventsIn, leftIn, kept, mendedHeader, keptBytes, mendedLog}
 use Rattle.mending.proofs.Written.{kept-few, length-mended, no-longer}
-
--- A record, so that the list is found in `Bytes l`.
-record Bytes (l : List ℕ) : Type 0 where
-  so : every isByte l ≡ true
-
-byte-on : (x : ℕ) (l : List ℕ) → x < 256 → Bytes l → Bytes (x ∷ l)
-byte-on x l h b = record { so = rw (lt-ltb x 256 h, b .so) }
-
-two-on : (n : ℕ) (l : List ℕ) → n < 65536 → Bytes l → Bytes (two n ++ l)
-two-on n l h b = byte-on (n / 256) (n % 256 ∷ l) (omega arith) (byte-on (n % 256) l (omega arith) b)
-
-four-on : (n : ℕ) (l : List ℕ) → n < 4294967296 → Bytes l → Bytes (four n ++ l)
-four-on n l h b = two-on (n / 65536) (two (n % 65536) ++ l) (omega arith) (two-on (n % 65536) l (omega arith) b)
-
-list-on : (a l : List ℕ) → every isByte a ≡ true → Bytes l → Bytes (a ++ l)
-list-on [] l h b = b
-list-on (x ∷ a) l h b =
-    let k = both (isByte x) (every isByte a) h in
-    record { so = rw (k .0) (list-on a l (k .1) b .so) }
-
-pub bytes-area : (l : List ℕ) (i n : ℕ) → every isByte l ≡ true → every isByte (area l i n) ≡ true
-bytes-area l i n h = every-take isByte n (drop i l) (every-drop isByte i l h)
 
 -- The fields of a header, each in the bytes that it has.
 record InRange (h : Header) : Type 0 where

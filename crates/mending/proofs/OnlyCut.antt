@@ -17,16 +17,16 @@ use Rattle.rules.specs.Events.{Form, plain, addressed, eventSize, entries, soun
 use Rattle.rules.specs.InOrder.{Check, unless}
 use Rattle.rules.specs.Logs.{Header, formOf, headerSize, formIn, headerOf, flag, Uses, usesOf, mostListens, fieldsOk, eventOk, argumentBytes, eventBytes, replyBytes, layoutOk, settingOf, callOf, lentOf, answerOf, area}
 use Rattle.rules.specs.Refusals.{arguments}
-use Rattle.rules.proofs.Judging.{pass-append, append-pass}
+use Rattle.rules.proofs.Judging.{trues, trues-back, pass-append, append-pass}
+use Rattle.rules.proofs.OfBytes.{bytes-area}
 use Rattle.rules.proofs.Writing.{every-take}
 use Rattle.mending.specs.Mend.{argumentsIn, eventsIn, leftIn, kept, mendedHeader, mendedLog, Report, report, refused, mended, headed, mending, readable, mend}
 use Rattle.mending.specs.Promises.{Taken, entriesOf, others, Kept, Saved, Cut, OnlyCut}
-use Rattle.mending.proofs.Bytes.{bytes-area}
 use Rattle.mending.proofs.Cuts.{take-taken, area-cut, header-cut, call-same, passes, rising-take, sounds-left, within}
 use Rattle.mending.proofs.Judged.{all-read, gives-18, gives-19, gives-log}
 use Rattle.mending.proofs.Promises.{keeps-the-old, no-longer-than-it, still-bad}
 use Rattle.mending.proofs.Runs.{Fits, fits-whole, entries-front, run-fits}
-use Rattle.mending.proofs.Taken.{trues, trues-back, Laid, laid, short, events-there, left-there, accepts, in-limits}
+use Rattle.mending.proofs.Taken.{Laid, laid, short, events-there, left-there, accepts, in-limits}
 use Rattle.mending.proofs.Written.{length-area, kept-few, kept-whole, length-kept}
 
 -- "Arguments are address, size, data": the two lengths are among them.

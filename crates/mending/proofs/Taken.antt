@@ -13,7 +13,7 @@ use Rattle.rules.specs.Events.{eventSize, entries}
 use Rattle.rules.specs.Logs.{Header, moved, headerSize, formIn, headerOf, flag, usesOf, all, fieldsOk, areasOk, eventOk, eventBytes, replyBytes, laidOut, layoutOk, settingOf, callOf, lentOf, answerOf, area}
 use Rattle.rules.specs.Refusals.{arguments}
 use Rattle.rules.proofs.Demand3.{Accepted, accepted}
-use Rattle.rules.proofs.Judging.{both, pass-append}
+use Rattle.rules.proofs.Judging.{both, trues, trues-back, pass-append}
 use Rattle.rules.proofs.Laying.{entries-length}
 use Rattle.rules.proofs.Limits.{Sound, limits}
 use Rattle.rules.proofs.Opened.{byte-at}
@@ -23,19 +23,6 @@ use Rattle.mending.specs.Promises.{Taken, entriesOf}
 use Rattle.mending.proofs.Runs.{run-all, whole-exact}
 use Rattle.mending.proofs.Whole.{Whole}
 use Rattle.mending.proofs.Written.{length-area}
-
--- Tests that all pass.
-abbrev pub Trues : List Bool → Type 0
-Trues [] = Unit {0}
-Trues (b ∷ bs) = (b ≡ true) × Trues bs
-
-pub trues : (bs : List Bool) → all bs ≡ true → Trues bs
-trues [] h = tt
-trues (b ∷ bs) h = let k = both b (all bs) h in (k .0, trues bs (k .1))
-
-pub trues-back : (bs : List Bool) → Trues bs → all bs ≡ true
-trues-back [] h = refl
-trues-back (b ∷ bs) h = rw (h .0) (trues-back bs (h .1))
 
 -- The layout, as facts.
 pub record Laid (h : Header) (l : List ℕ) : Type 0 where

@@ -5,6 +5,7 @@ use mathlib.Core.Logic.{_⊎_, inl, inr}
 use mathlib.Core.List.{List, [], _∷_, _++_}
 use Rattle.rules.specs.InOrder.{Check, judge}
 use Rattle.rules.specs.Conversations.{Every}
+use Rattle.rules.specs.Logs.{all}
 
 abbrev pub Pass : {A : Type 0} → List (Check A) → Type 0
 Pass [] = Unit {0}
@@ -17,6 +18,19 @@ by-test false e = inr (refl, e)
 pub both : (a b : Bool) → (a && b) ≡ true → (a ≡ true) × (b ≡ true)
 both true b e = (refl, e)
 both false b e = let z : false ≡ true = e in (z, absurd (mathlib.Core.Bool.false≢true z))
+
+-- Tests that all pass.
+abbrev pub Trues : List Bool → Type 0
+Trues [] = Unit {0}
+Trues (b ∷ bs) = (b ≡ true) × Trues bs
+
+pub trues : (bs : List Bool) → all bs ≡ true → Trues bs
+trues [] h = tt
+trues (b ∷ bs) h = let k = both b (all bs) h in (k .0, trues bs (k .1))
+
+pub trues-back : (bs : List Bool) → Trues bs → all bs ≡ true
+trues-back [] h = refl
+trues-back (b ∷ bs) h = rw (h .0) (trues-back bs (h .1))
 
 pub judge-pass : {A B : Type 0} (wrong : A → B) (cs : List (Check A)) (x : B) → Pass cs → judge wrong cs x ≡ x
 judge-pass wrong [] x p = refl

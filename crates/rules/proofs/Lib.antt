@@ -27,6 +27,7 @@ pub mod Inside
 pub mod Unrefused
 pub mod Demand1
 pub mod Writing
+pub mod OfBytes
 pub mod Dropping
 pub mod Places
 pub mod Laying

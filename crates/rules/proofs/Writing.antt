@@ -19,10 +19,10 @@ use Rattle.rules.proofs.Judging.{both}
 use Rattle.rules.proofs.Opened.{byte-at}
 
 -- A number is that of its two bytes, or four.
-two-back : (n : ℕ) → n / 256 * 256 + n % 256 ≡ n
+pub two-back : (n : ℕ) → n / 256 * 256 + n % 256 ≡ n
 two-back n = omega arith
 
-four-back : (n : ℕ) → (n / 65536 / 256 * 256 + n / 65536 % 256) * 65536 + (n % 65536 / 256 * 256 + n % 65536 % 256) ≡ n
+pub four-back : (n : ℕ) → (n / 65536 / 256 * 256 + n / 65536 % 256) * 65536 + (n % 65536 / 256 * 256 + n % 65536 % 256) ≡ n
 four-back n = omega arith
 
 read-as : (form : Form) (h : Header) (rest : List ℕ) → Sayable form 255 (h .listens) → headerIn form (putHeaderIn form h ++ rest) ≡ h
@@ -97,7 +97,7 @@ entry-long addressed e = refl
 
 -- The bytes of l from index i on: one of them, or the two or four of a number, and n more.
 module _ (l : List ℕ) (bytes : every isByte l ≡ true) where
-  one-on : (i n : ℕ) {more : List ℕ} → i + 1 ≤ length l → more ≡ area l (i + 1) n → getD l i 0 ∷ more ≡ area l i (suc n)
+  pub one-on : (i n : ℕ) {more : List ℕ} → i + 1 ≤ length l → more ≡ area l (i + 1) n → getD l i 0 ∷ more ≡ area l i (suc n)
   one-on i n h e = rw (drop-cons l i 0 (omega arith), ← (add-one i)) (ap (λ (t : List ℕ). getD l i 0 ∷ t) e)
 
   byte-on : (i n : ℕ) {more : List ℕ} → i + 1 ≤ length l → more ≡ area l (i + 1) n → getD l i 0 % 256 ∷ more ≡ area l i (suc n)
@@ -106,7 +106,7 @@ module _ (l : List ℕ) (bytes : every isByte l ≡ true) where
       let same : getD l i 0 % 256 ≡ getD l i 0 = omega arith in
       rw same (one-on i n h e)
 
-  two-on : (i n : ℕ) {more : List ℕ} → i + 2 ≤ length l → more ≡ area l (i + 2) n → two (u16At l i) ++ more ≡ area l i (suc (suc n))
+  pub two-on : (i n : ℕ) {more : List ℕ} → i + 2 ≤ length l → more ≡ area l (i + 2) n → two (u16At l i) ++ more ≡ area l i (suc (suc n))
   two-on i n {more} h e =
       let a = byte-at l bytes i in
       let b = byte-at l bytes (i + 1) in
@@ -115,7 +115,7 @@ module _ (l : List ℕ) (bytes : every isByte l ≡ true) where
       let s : i + 1 + 1 ≡ i + 2 = omega arith in
       rw (high, low) (one-on i (suc n) (omega arith) (one-on (i + 1) n (omega arith) (rw s e)))
 
-  four-on : (i n : ℕ) {more : List ℕ} → i + 4 ≤ length l → more ≡ area l (i + 4) n
+  pub four-on : (i n : ℕ) {more : List ℕ} → i + 4 ≤ length l → more ≡ area l (i + 4) n
       → four (u32At l i) ++ more ≡ area l i (suc (suc (suc (suc n))))
   four-on i n {more} h e =
       let a = byte-at l bytes (i + 2) in

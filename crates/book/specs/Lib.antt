@@ -1,0 +1,3 @@
+-- What the contracts of `book` cite besides `bookkeeping`.
+pub mod Moved
+pub mod Answered

@@ -1,0 +1,4 @@
+-- Laws behind the proofs of `udsbook`.
+pub mod Texts
+pub mod Holding
+pub mod Digits

@@ -1,0 +1,3 @@
+-- What the contracts of `udsbook` cite besides `bookkeeping`.
+pub mod Streams
+pub mod Words
