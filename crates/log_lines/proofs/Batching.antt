@@ -2,12 +2,11 @@
 use Prim.Native.Nat.{ℕ, zero, suc, _+_, _-_, _≤_, _<_}
 use native.Mathlib.Nat.{zero-add}
 use native.Mathlib.Omega.{arith}
-use mathlib.Core.Bool.{Bool, true, false, cond, _&&_}
+use mathlib.Core.Bool.{true}
 use mathlib.Core.List.{List, [], _∷_, _++_, append-assoc}
 use mathlib.Core.Logic.{_⊎_, inl, inr}
 use mathlib.Core.Path.{_≡_, refl, sym, ap, subst, _∙_}
-use borrow.Author.Tests.{lt-ltb, le-ltb, ltb-true, ltb-false, le-leb, lt-leb}
-use lib.Dec.{leb, ltb}
+use borrow.Author.Tests.{lt-ltb, le-ltb, le-leb, lt-leb}
 use lib.ListN.{length, take, drop, length-take, length-drop, length-append, List·getD-append}
 use lib.Seq.{take-all, drop-append-le, take-append-le, drop-drop}
 use Rattle.rules.specs.Bytes.{u32At, every, isByte}
@@ -17,7 +16,7 @@ use Rattle.rules.proofs.Judging.{both}
 use Rattle.rules.proofs.Writing.{every-drop, every-take}
 use Rattle.text.specs.Written.{Put}
 use Rattle.log_files.specs.Files.{size, first, linesOf}
-use Rattle.log_files.proofs.Files.{lines-none, lines-first, lines-cut, lines-bad}
+use Rattle.log_files.proofs.Files.{lines-first, lines-bad}
 use Rattle.log_files.proofs.Long.{long-is-bad}
 use Rattle.log_lines.specs.declared.Batch.{Batch}
 use Rattle.log_lines.specs.Batches.{Passed, behind, whole, Over, Stops, Goes, Batched, Ended}
@@ -28,7 +27,7 @@ pub none-is-bad : lineOf [] ≡ badlog
 unfolding lineOf layoutOk
 none-is-bad = refl
 
-all-bytes : (a b : List ℕ) → every isByte a ≡ true → every isByte b ≡ true → every isByte (a ++ b) ≡ true
+pub all-bytes : (a b : List ℕ) → every isByte a ≡ true → every isByte b ≡ true → every isByte (a ++ b) ≡ true
 all-bytes [] b h k = k
 all-bytes (x ∷ a) b h k = let t = both (isByte x) (every isByte a) h in rw (t .0) (all-bytes a b (t .1) k)
 
@@ -188,6 +187,7 @@ pub record Held (left : ℕ) (input before out : List ℕ) (b : Batch) : Type 0 
   pub inside : b .taken ≤ length input
   pub room : b .written ≤ length out
   pub over : Over b input
+  pub none : b .taken ≡ 0 → b .written ≡ 0
   pub lines : (more : List ℕ) → every isByte more ≡ true → linesOf (drop left (input ++ more)) ≡ whole b input out more
   pub long : length out ≡ length before
 
@@ -196,16 +196,22 @@ held-first left input out r p = record {
   inside = p .0;
   room = omega (arith, p .3);
   over = p .4;
+  none = λ e. p .3;
   lines = λ more bytes. begins left input out r p more;
   long = refl;
 }
 
 module _ {left : ℕ} {input before out after : List ℕ} {b r : Batch} (held : Held left input before out b) (g : Goes b input out r after) where
+  none-on : (b .taken < r .taken) ⊎ ((r ≡ b) × (after ≡ out) × Stops b input (length out)) → r .taken ≡ 0 → r .written ≡ 0
+  none-on (inl on) e = absurd (omega arith)
+  none-on (inr x) e = ap (λ (y : Batch). y .written) (x .0) ∙ held .none (sym (ap (λ (y : Batch). y .taken) (x .0)) ∙ e)
+
   pub held-on : length after ≡ length out → Held left input before after r
   held-on kept = record {
     inside = g .inside;
     room = g .room;
     over = g .over;
+    none = none-on (g .moves);
     lines = λ more bytes. held .lines more bytes ∙ g .same more bytes;
     long = kept ∙ held .long;
   }
@@ -214,7 +220,7 @@ module _ {left : ℕ} {input before out after : List ℕ} {b r : Batch} (held : 
   batched e =
       let end = stopped g e in
       subst (λ (o : List ℕ). Batched left input b o) (sym (end .0))
-      (record { inside = held .inside; room = held .room; over = held .over; lines = held .lines; stops = end .1 })
+      (record { inside = held .inside; room = held .room; over = held .over; none = held .none; lines = held .lines; stops = end .1 })
 
 -- Behind the end.
 module _ (left : ℕ) (input out : List ℕ) where
@@ -231,14 +237,3 @@ module _ (left : ℕ) (input out : List ℕ) where
         count = rw (lt-ltb left (length input) h, le-leb 8222 (length out) k) (wrote .next ∙ zero-add (length badlog));
         line = rw (lt-ltb left (length input) h, le-leb 8222 (length out) k) (wrote .line);
       }
-
--- What `end` says of a rest that `lines` left: those are its lines.
-pub ends : (left : ℕ) (input : List ℕ) → (left < length input → (left ≡ 0) × (length input < 4 + size input)) → linesOf (drop left input) ≡ cond (ltb left (length input)) badlog []
-ends left input cut = go (ltb left (length input)) refl
-  where
-    go : (t : Bool) → ltb left (length input) ≡ t → linesOf (drop left input) ≡ cond t badlog []
-    go true e =
-        let some = ltb-true left (length input) e in
-        let c = cut some in
-        ap (λ (n : ℕ). linesOf (drop n input)) (c .0) ∙ lines-cut input (omega arith) (c .1)
-    go false e = let none = ltb-false left (length input) e in lines-none (drop left input) (omega (arith, length-drop left input))

@@ -48,6 +48,7 @@ pub record Batched (left : ℕ) (input : List ℕ) (r : Batch) (out : List ℕ) 
   pub room : r .written ≤ length out
   pub over : Over r input
   pub lines : (more : List ℕ) → every isByte more ≡ true → linesOf (drop left (input ++ more)) ≡ take (r .written) out ++ linesOf (behind r input more)
+  pub none : r .taken ≡ 0 → r .written ≡ 0
   pub stops : Stops r input (length out)
 
 -- Behind the end of a file.
