@@ -1,6 +1,6 @@
-/* stack LOGS: how much stack one whole call of the proved library takes, for each log of a file (each after its length as u32,
- * big-endian) whose numbers ask a call, and for the alfid forms of calls 5, 6, 11 and 12; and how much it takes to begin each such call
- * and to hand over its events and a tick, one at a time.
+/* stack LOGS: how much stack the proved library takes from each log of a file (each after its length as u32, big-endian) to its line; how much
+ * one whole call takes, for each log whose numbers ask a call, and for the alfid forms of calls 5, 6, 11 and 12; and how much it takes to begin
+ * each such call and to hand over its events and a tick, one at a time.
  *
  * A call runs on a stack of its own that was painted before; what it left unpainted is counted, once for each of two paints. What an
  * empty function takes in its place is subtracted. To be linked statically: a dynamic linker looks up the library's functions of C in the
@@ -13,6 +13,10 @@
 
 #include "bintrochis.h"
 
+/* crates/log_door */
+size_t bintrochis_line(const uint8_t *log, size_t log_length, uint8_t *line, size_t room);
+
+enum { LONGEST_LINE = 8222 };
 enum { ROOM = 1 << 18, HEADER = 36 }; /* the header of version 1; that of version 2 has one byte more */
 
 static _Alignas(64) unsigned char stack[ROOM];
@@ -33,6 +37,14 @@ static size_t u16_at(const uint8_t *p) { return (size_t)p[0] << 8 | p[1]; }
 static uint32_t u32_at(const uint8_t *p) { return (uint32_t)u16_at(p) << 16 | (uint32_t)u16_at(p + 2); }
 
 static void nothing(void) {}
+
+static size_t log_length;
+static uint8_t text[LONGEST_LINE];
+
+static void to_its_line(void) {
+    bintrochis_line(header, log_length, text, sizeof text);
+    result = BINTROCHIS_DONE;
+}
 
 static void in_bytes(void) {
     const uint8_t *times = header + 24 + addressed;
@@ -100,7 +112,7 @@ struct taken {
     size_t sizes[MOST];
 };
 static struct taken calls = {.name = "calls with bytes"}, alfid_calls = {.name = "alfid forms"}, begun = {.name = "begun with bytes"},
-                    alfid_begun = {.name = "begun in alfid forms"}, handed = {.name = "events handed over"}, ticked = {.name = "ticks"};
+                    alfid_begun = {.name = "begun in alfid forms"}, lines = {.name = "from log to line"}, handed = {.name = "events handed over"}, ticked = {.name = "ticks"};
 
 static size_t empty; /* what an empty function takes */
 
@@ -157,12 +169,14 @@ int main(int count, char **words) {
             fprintf(stderr, "%s ends within a log.\n", words[1]);
             return 2;
         }
+        header = log;
+        log_length = size;
+        measure(&lines, to_its_line);
         addressed = size > 1 && u16_at(log) == 2;
         const size_t fixed = HEADER + addressed;
         if (size < fixed) {
             continue;
         }
-        header = log;
         argument_count = u16_at(log + 10 + addressed);
         event_bytes = u16_at(log + 14 + addressed) * (addressed ? BINTROCHIS_ADDRESSED_EVENT : BINTROCHIS_EVENT);
         reply_count = u16_at(log + 18 + addressed);
@@ -202,6 +216,7 @@ int main(int count, char **words) {
             measure_steps(&alfid_begun, begins_in_numbers);
         }
     }
+    say(&lines);
     say(&calls);
     say(&alfid_calls);
     say(&begun);

@@ -1,5 +1,6 @@
 -- Entries as they are read from the lent bytes, one by one, and their limits.
 use Prim.Native.Nat.{ℕ, zero, suc, _+_, _-_, _*_, _/_, _%_, _^_, _≤_, _<_}
+use native.Mathlib.Nat.{add-sub-cancel-left}
 use native.Mathlib.Numerals.{add-one}
 use native.Mathlib.Omega.{arith}
 use mathlib.Core.Bool.{Bool, true, false, cond, _&&_, and-true, and-false, and-eq-true-iff}
@@ -22,6 +23,11 @@ pub size-fits : (form : Form) (i n : ℕ) → i ≤ n / eventSize form → i * e
 size-fits plain i n h = omega arith
 size-fits addressed i n h = omega arith
 
+-- One that is whole ends inside.
+pub size-inside : (form : Form) (i n : ℕ) → i < n / eventSize form → i * eventSize form + eventSize form ≤ n
+size-inside plain i n h = omega arith
+size-inside addressed i n h = omega arith
+
 pub no-more-bytes : (form : Form) (i n : ℕ) → n / eventSize form < i → n ≤ i * eventSize form
 no-more-bytes plain i n h = omega arith
 no-more-bytes addressed i n h = omega arith
@@ -40,15 +46,19 @@ module _ (l : List ℕ) (i : ℕ) where
   source-within plain e p = u16-past e 10 (rw p (simp (length-take, length-drop) (omega arith)))
   source-within addressed e p = refl
 
-  pub entry-read : (form : Form) (e : List ℕ) → e ≡ take (eventSize form) (drop (i * eventSize form) l)
-      → record { time = u32At e 0; kind = u16At e 4; offset = u16At e 6; size = u16At e 8; source = u16At e 10 } ≡ entryAt form l i
+  pub entry-read : (form : Form) (e : List ℕ) → e ≡ take (eventSize form) (drop (i * eventSize form) l) → entryIn addressed e 0 ≡ entryAt form l i
   entry-read form e p =
       let source = source-within form e p in
       (λ k. record { time = u32At e 0; kind = u16At e 4; offset = u16At e 6; size = u16At e 8; source = source k }) ∙
       ap (λ (b : List ℕ). entryIn form b 0) p ∙
       chunk-entry form l i
 
-  pub entry-past : (form : Form) → length l / eventSize form < i → record { time = 0; kind = 0; offset = 0; size = 0; source = 0 } ≡ entryAt form l i
+  -- The same of a part from where the entry begins to where it ends.
+  pub entry-part : (form : Form) (size : ℕ) → size ≡ eventSize form → entryIn addressed (take (i * size + size - i * size) (drop (i * size) l)) 0 ≡ entryAt form l i
+  entry-part form size is =
+      rw (is, add-sub-cancel-left (i * eventSize form) (eventSize form)) (entry-read form (take (eventSize form) (drop (i * eventSize form) l)) refl)
+
+  pub entry-past : (form : Form) → length l / eventSize form < i → entryIn addressed [] 0 ≡ entryAt form l i
   entry-past form h =
       let end = no-more-bytes form i (length l) h in
       let source = no-source form (i * eventSize form) end in

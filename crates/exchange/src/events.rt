@@ -7,10 +7,10 @@ use wire::u16_at;
 use wire::u32_at;
 ghost use mathlib.Core.Bool.{Bool};
 ghost use mathlib.Core.Path.{_≡_};
-ghost use Prim.Native.Nat.{_/_};
+ghost use Prim.Native.Nat.{_/_, _<_};
 ghost use lib.ListN.{length};
 ghost use Rattle.rules.specs.Bytes.{every, isByte};
-ghost use Rattle.rules.specs.Events.{eventSize, entryAt, withinLimits};
+ghost use Rattle.rules.specs.Events.{addressed, eventSize, entryIn, entryAt, withinLimits};
 ghost use Rattle.rules.specs.Events as rules;
 ghost use Rattle.exchange.specs.Meaning.{formOf, entryOf, kindHeard};
 ghost use Rattle.exchange.specs.Places.{Named};
@@ -33,21 +33,10 @@ pub fn event_count(form: Form, events: &[u8]) -> usize
     events.len() / size
 }
 
-// Event number `i`. Bytes past the end read as 0, and so does the address of an event that has none.
-pub fn event_at(form: Form, events: &[u8], i: usize) -> Event
-    ensures { λ r. ⌜ entryOf r ≡ entryAt (formOf form) (now (events .entry)) i ⌝ }
+// The event whose bytes these are. Bytes past the end read as 0, and so does the address of an event that has none.
+fn event_of(entry: &[u8]) -> Event
+    ensures { λ r. ⌜ entryOf r ≡ entryIn addressed (now (entry .entry)) 0 ⌝ }
 {
-    if i > event_count(form, events) {
-        return Event {
-            time: 0,
-            kind: 0,
-            offset: 0,
-            size: 0,
-            source: 0,
-        };
-    }
-    let size = event_size(form);
-    let entry = part(events, i * size, size);
     Event {
         time: u32_at(entry, 0),
         kind: u16_at(entry, 4),
@@ -55,6 +44,32 @@ pub fn event_at(form: Form, events: &[u8], i: usize) -> Event
         size: u16_at(entry, 8),
         source: u16_at(entry, 10),
     }
+}
+
+// Event number `i` of those that are whole: a part of a length that is known asks nothing at each read.
+pub(crate) fn event_in(form: Form, events: &[u8], i: usize) -> Event
+    requires { ⌜ i < length (now events) / eventSize (formOf form) ⌝ }
+    ensures { λ r. ⌜ entryOf r ≡ entryAt (formOf form) (now (events .entry)) i ⌝ }
+{
+    let size = event_size(form);
+    let at = i * size;
+    let end = at + size;
+    event_of(&events[at..end])
+}
+
+// Event number `i`. Bytes past the end read as 0, and so does the address of an event that has none.
+pub fn event_at(form: Form, events: &[u8], i: usize) -> Event
+    ensures { λ r. ⌜ entryOf r ≡ entryAt (formOf form) (now (events .entry)) i ⌝ }
+{
+    let n = event_count(form, events);
+    if i < n {
+        return event_in(form, events, i);
+    }
+    if i > n {
+        return event_of(b"");
+    }
+    let size = event_size(form);
+    event_of(part(events, i * size, size))
 }
 
 // "Replies from other addresses are read and passed over": a foreign reply is heard as an idle event.
@@ -121,7 +136,7 @@ pub fn within_limits(form: Form, events: &[u8], replies: &[u8]) -> bool
     let mut last = 0;
     let mut i = 0;
     while i < n {
-        let event = event_at(form, events, i);
+        let event = event_in(form, events, i);
         if event.time < last {
             return false;
         }

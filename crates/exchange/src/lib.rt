@@ -1,6 +1,6 @@
 // The exchange over a lent event list: "The exchange reads until one event settles it".
-use events::event_at;
 use events::event_count;
+use events::event_in;
 use events::kind_heard;
 use events::named;
 use events::within_limits;
@@ -283,7 +283,7 @@ fn settle(
         if i >= n {
             break under(overall, silence(state));
         }
-        let event = event_at(form, events, i);
+        let event = event_in(form, events, i);
         let time = event.time as u64;
         if time > state.deadline {
             break under(overall, silence(state));

@@ -1,14 +1,14 @@
 -- Laws of what a header asks.
-use Prim.Native.Nat.{ℕ, zero, suc, _/_, _%_, _≤_}
+use Prim.Native.Nat.{ℕ, _/_, _%_, _≤_, _<_}
 use native.Mathlib.Omega.{arith}
 use mathlib.Core.Bool.{Bool, true, false, cond, _&&_}
 use mathlib.Core.List.{List}
 use mathlib.Core.Path.{_≡_, refl, sym, ap, ap₂, subst, _∙_}
 use lib.Dec.{leb, eqb}
-use lib.ListN.{List·getD-eq-default}
-use borrow.Author.Tests.{leb-true, eq-eqb}
+use lib.ListN.{length, List·getD-eq-default}
+use borrow.Author.Tests.{leb-true, lt-leb, eq-eqb}
 use Rattle.rules.specs.Calls.{Field, testerPresent}
-use Rattle.rules.specs.Logs.{Header, headerOf, Uses, flag, usesOf, fieldsOk, laidOut, layoutOk, some?, choices}
+use Rattle.rules.specs.Logs.{Header, headerSize, formIn, headerOf, Uses, flag, usesOf, fieldsOk, laidOut, layoutOk, some?, choices}
 use Rattle.rules.proofs.Judging.{both}
 use Rattle.requests.specs.declared.Data.the-variants.{Absent, Present}
 use Rattle.requests.specs.Meaning.{dataOf}
@@ -47,18 +47,14 @@ module _ (h : Header) where
   pub no-call : (a s : Field) (d : List ℕ) → 16 ≤ h .call → testerPresent ≡ chosen h a s d
   no-call a s d k = sym (List·getD-eq-default (choices (h .value) (h .sub) _ a s _) testerPresent k)
 
--- A number that is none of the first k.
-abbrev pub NoneOf : ℕ → ℕ → Type 0
-NoneOf zero c = Unit {0}
-NoneOf (suc k) c = NoneOf k c × (c ≡ k → ⊥)
-
-pub above : (c k : ℕ) → NoneOf k c → k ≤ c
-above c zero n = omega arith
-above c (suc k) n = omega (arith, above c k (n .0), n .1)
-
 pub data-is : (b : Bool) (d : List ℕ) → dataOf (cond b Present Absent) d ≡ some? b d
 data-is true d = refl
 data-is false d = refl
+
+-- No log is shorter than a header.
+pub too-short : (l : List ℕ) → length l < 36 → layoutOk l ≡ false
+unfolding layoutOk
+too-short l h = rw (lt-leb (headerSize (formIn (headerOf l))) (length l) (omega arith))
 
 -- A log's layout is sound where all but its fields is, and they are; h is its header.
 module _ (l : List ℕ) {h : Header} (is : h ≡ headerOf l) {laid : Bool} (told : laid ≡ laidOut h l) where

@@ -141,6 +141,10 @@ pub enum Recorded {
 pub fn recorded_in(log: &[u8]) -> Recorded
     ensures { λ r. ⌜ RecordedIn (now (log .entry)) r ⌝ }
 {
+    // shorter than either header; behind this the compiler knows that what it reads of a header is there
+    if log.len() < 36 {
+        return Recorded::BadLog;
+    }
     let h = read_header(log);
     if !laid_out(log, h) {
         return Recorded::BadLog;

@@ -2,10 +2,10 @@
 use Prim.Native.Nat.{ℕ, _+_, _-_, _≤_, _<_, zero, suc}
 use native.Mathlib.Numerals.{add-one}
 use native.Mathlib.Omega.{arith}
-use mathlib.Core.Bool.{Bool, true, false, _&&_, _||_}
+use mathlib.Core.Bool.{Bool, true, false, _&&_, _||_, and-true}
 use mathlib.Core.List.{List, [], _∷_}
 use mathlib.Core.Logic.{_⊎_, inl, inr, _≢_}
-use mathlib.Core.Path.{_≡_, refl, _∙_}
+use mathlib.Core.Path.{_≡_, refl, sym, ap, _∙_}
 use borrow.Author.Tests.{eq-eqb, ne-eqb}
 use lib.Dec.{leb, eqb}
 use lib.ListN.{length, getD, drop, drop-of-length-le}
@@ -21,6 +21,24 @@ all-turn l i b h e = rw (drop-cons l i false h, add-one, e)
 
 pub all-end : (l : List Bool) (i : ℕ) → length l ≤ i → all (drop i l) ≡ true
 all-end l i h = rw (drop-of-length-le l h)
+
+-- One test more, behind tests of which p says whether all passed.
+pub all-more : (l : List Bool) (i : ℕ) (p q : Bool) → i < length l → (p && all (drop i l)) ≡ q → ((p && getD l i false) && all (drop (i + 1) l)) ≡ q
+all-more l i true q h e = sym (all-turn l i (getD l i false) h refl) ∙ e
+all-more l i false q h e = e
+
+-- No test more.
+pub all-last : (l : List Bool) (i : ℕ) (p q : Bool) → length l ≤ i → (p && all (drop i l)) ≡ q → p ≡ q
+all-last l i p q h e = sym (and-true p) ∙ sym (ap (λ (b : Bool). p && b) (all-end l i h)) ∙ e
+
+-- A number that is none of the first k.
+abbrev pub NoneOf : ℕ → ℕ → Type 0
+NoneOf zero c = Unit {0}
+NoneOf (suc k) c = NoneOf k c × (c ≡ k → ⊥)
+
+pub above : (c k : ℕ) → NoneOf k c → k ≤ c
+above c zero n = omega arith
+above c (suc k) n = omega (arith, above c k (n .0), n .1)
 
 pub event-turn : (form : Form) (bs : List ℕ) (i n : ℕ) (b : Bool) → i < n → eventOk (entryAt form bs i) ≡ b
     → every eventOk (entriesFrom form bs (n - i) i) ≡ (b && every eventOk (entriesFrom form bs (n - (i + 1)) (i + 1)))

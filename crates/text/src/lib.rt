@@ -86,6 +86,10 @@ fn put_number(line: &mut [u8], at: usize, value: u64) -> usize
     ensures { λ r. ⌜ Put (now (line .entry)) at (spaced (decimal value)) (now (line .exit)) r ⌝ }
 {
     let n = put_byte(line, at, b' ');
+    // most counts have one digit
+    if value < 10 {
+        return put_byte(line, n, digit(value as u8));
+    }
     put_decimal(line, n, value)
 }
 

@@ -4,10 +4,12 @@
 
 mod compare;
 mod direct;
+mod direct_line;
 mod faults;
 mod foreign;
 mod generate;
 mod limited;
+mod lined;
 mod lines;
 mod list;
 mod log;
@@ -32,6 +34,10 @@ oracle logs SIDE LOGS EXPECTED     SIDE's line of each log, of either version
 oracle steps SIDE [SEED]           SIDE one event at a time with ticks between, which the original does not do
 oracle runs SIDE RUNS              SIDE on the runs of a file, step by step
 oracle list PREFIX [SEED]          writes the fixed list, PREFIX.bin and PREFIX.expected
+oracle written SIDE LOGS EXPECTED  SIDE's line of each log, from the log's bytes
+oracle filter                      a file of logs as standard input to their lines, by the direct program
+oracle set NAME LOGS               writes a set of logs that is measured: one-reply or long-lists
+oracle passes SIDE LOGS COUNT      so many passes over the logs of a file, from log to line; SIDE may be original
 oracle time [SEED] [LOGS]          what a call costs, on the logs of a file too
 SIDE is direct or, where the driver was built with it, proved. SEED is a number, 1 if left out.";
 
@@ -84,6 +90,13 @@ fn run(words: &[&str]) -> Result<usize, String> {
         }
         ["runs", name, runs] => steps::runs(stepper(name)?, runs),
         ["list", prefix, more @ ..] => list::list(prefix, seed(more.first())?),
+        ["written", name, logs, expected] => lined::written(name, logs, expected),
+        ["filter"] => lined::filter(),
+        ["set", name, path] => lined::set(name, path),
+        ["passes", name, logs, count] => {
+            let count = count.parse();
+            lined::passes(name, logs, count.map_err(|_| "COUNT is a number.".to_string())?)
+        }
         ["time", number, logs] => time::time(seed(Some(number))?, Some(logs)),
         ["time", more @ ..] => time::time(seed(more.first())?, None),
         _ => Err(format!("Usage:\n{USAGE}")),

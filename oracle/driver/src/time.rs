@@ -8,9 +8,9 @@ use crate::model::{Call, Case, Setting, IDLE};
 use crate::original::Original;
 use crate::rng::Rng;
 use crate::sample::generator_rng;
-use crate::{direct, log};
+use crate::{direct, direct_line, lined, log};
+use clock::thread_time;
 use std::hint::black_box;
-use std::time::Instant;
 
 const ROUNDS: usize = 9;
 
@@ -67,15 +67,43 @@ fn engines(cases: &[Case]) -> Vec<Engine<'_>> {
     engines
 }
 
+/// The same from a log's bytes to its line. A log with a refusal that the original does not have is none of these.
+fn liners(logs: &[Vec<u8>]) -> Vec<Engine<'_>> {
+    let mut original = Original::default();
+    let mut engines = vec![Engine {
+        name: "original",
+        pass: Box::new(move || {
+            for log in logs {
+                black_box(lined::by_original(&mut original, black_box(log)));
+            }
+        }),
+    }];
+    for name in ["direct", "proved"] {
+        if let Ok(line) = lined::liner(name) {
+            let mut buffer = [0; direct_line::LONGEST];
+            let pass = move || {
+                for log in logs {
+                    black_box(line(black_box(log), black_box(&mut buffer)));
+                }
+            };
+            engines.push(Engine {
+                name,
+                pass: Box::new(pass),
+            });
+        }
+    }
+    engines
+}
+
 /// Nanoseconds of one pass, over enough passes to take some milliseconds.
 fn measure(engine: &mut Engine) -> f64 {
     let mut passes = 1;
     loop {
-        let begin = Instant::now();
+        let begin = thread_time();
         for _ in 0..passes {
             (engine.pass)();
         }
-        let taken = begin.elapsed();
+        let taken = thread_time() - begin;
         if taken.as_millis() >= 20 {
             return taken.as_nanos() as f64 / passes as f64;
         }
@@ -90,13 +118,20 @@ fn spread(mut numbers: Vec<f64>) -> (f64, f64, f64) {
     (numbers[0], numbers[last / 2], numbers[last])
 }
 
-/// Measures all engines on the same cases, in turn, several times.
 fn report(name: &str, cases: &[Case]) {
-    let mut engines = engines(cases);
+    alternate(name, cases.len(), engines(cases));
+}
+
+fn report_lines(name: &str, logs: &[Vec<u8>]) {
+    alternate(&format!("{name}, from log to line"), logs.len(), liners(logs));
+}
+
+/// Measures all engines on the same cases, in turn, several times.
+fn alternate(name: &str, cases: usize, mut engines: Vec<Engine>) {
     let mut taken: Vec<Vec<f64>> = vec![Vec::new(); engines.len()];
     for _ in 0..ROUNDS {
         for (engine, taken) in engines.iter_mut().zip(&mut taken) {
-            taken.push(measure(engine) / cases.len() as f64);
+            taken.push(measure(engine) / cases as f64);
         }
     }
     println!("{name}:");
@@ -198,12 +233,16 @@ fn logged(path: &str) -> Result<Vec<Case>, String> {
 /// The command.
 pub fn time(seed: u64, logs: Option<&str>) -> Result<usize, String> {
     println!(
-        "Each line: nanoseconds a case, the middle of {ROUNDS} rounds (the least to the most)."
+        "Each line: nanoseconds a case of the thread's own time, the middle of {ROUNDS} rounds (the least to the most)."
     );
     if let Some(path) = logs {
         let cases = logged(path)?;
+        let bytes: Vec<_> = cases.iter().filter_map(log::write).collect();
+        report_lines(&format!("{} logs of {path}", bytes.len()), &bytes);
         report(&format!("{} logs of {path}", cases.len()), &cases);
     }
+    report_lines("every call, answered positive at once", &lined::one_reply());
+    report_lines("512 events, idle or notices", &lined::long_lists());
     let mut rng = Rng::new(seed);
     let mut mixed = Vec::new();
     for (at, generator) in GENERATORS.iter().enumerate() {

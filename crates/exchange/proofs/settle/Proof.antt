@@ -35,8 +35,8 @@ silence-requires c κs = search needs
 under-requires : tie.Need-under-requires Inv-loop μ-loop
 under-requires c κs = search needs
 
-event-at-requires : tie.Need-event-at-requires Inv-loop μ-loop
-event-at-requires c κs = search needs
+event-in-requires : tie.Need-event-in-requires Inv-loop μ-loop
+event-in-requires c κs = rw (← c .before .before .before .event-count .ensures) (c .if1 .left)
 
 cast-time : tie.Need-cast-time Inv-loop μ-loop
 cast-time c = search needs
@@ -65,7 +65,7 @@ loop-again c =
     let early = turned .before in
     let event = early .before .before .before in
     let more = event .before in
-    after-on (overall more) (more .before .loop .inv) (event .event-at .ensures) (more .if1 .left) (turned .turn .ensures) (early .if2 .left)
+    after-on (overall more) (more .before .loop .inv) (event .event-in .ensures) (more .if1 .left) (turned .turn .ensures) (early .if2 .left)
     (c .before .next .given .1)
 
 enum-known-settled : tie.Need-enum-known-settled Inv-loop μ-loop
@@ -84,7 +84,7 @@ returns-2 c =
     let late = c .before .before in
     let event = late .before .before .before in
     let more = event .before in
-    too-late (overall more) (more .before .loop .inv) (event .event-at .ensures) (more .if1 .left) (c .before .silence2 .ensures) (c .under2 .ensures) (late .if2 .taken)
+    too-late (overall more) (more .before .loop .inv) (event .event-in .ensures) (more .if1 .left) (c .before .silence2 .ensures) (c .under2 .ensures) (late .if2 .taken)
 
 returns-3 : tie.Need-returns-3 Inv-loop μ-loop
 returns-3 c =
@@ -92,7 +92,7 @@ returns-3 c =
     let early = turned .before in
     let event = early .before .before .before in
     let more = event .before in
-    ends-it (overall more) (more .before .loop .inv) (event .event-at .ensures) (more .if1 .left) (turned .turn .ensures) (early .if2 .left)
+    ends-it (overall more) (more .before .loop .inv) (event .event-in .ensures) (more .if1 .left) (turned .turn .ensures) (early .if2 .left)
     (c .before .before .settled .given .1) (c .under3 .ensures)
 
 pub settle-spec : {M : Type 1} → statement M
@@ -106,7 +106,7 @@ settle-spec =
     loop-holds
     silence-requires
     under-requires
-    event-at-requires
+    event-in-requires
     cast-time
     silence-requires-2
     under-requires-2

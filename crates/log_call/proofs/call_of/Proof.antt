@@ -2,7 +2,8 @@
 use native.Mathlib.Omega.{arith}
 use mathlib.Core.Path.{refl}
 use Rattle.logs.specs.Layout.{said}
-use Rattle.log_call.proofs.Headers.{sound-at, needed, above, no-call, data-is}
+use Rattle.logs.proofs.Layouts.{above}
+use Rattle.log_call.proofs.Headers.{sound-at, needed, no-call, data-is}
 use borrow.Author.Needs.{needs}
 use Rattle.log_call.proofs.call_of.Statement.{statement}
 use Rattle.log_call.proofs.call_of.Tie as tie

@@ -39,14 +39,14 @@ goes : (c : tie.After-sound Inv-loop μ-loop) → let event = c .before .before 
     let l = event .before .before .loop in
     let a = start begun .args in
     (s : Bool) → s ≡ c .sound .result
-    → (s && limits (a .replies .now) (entryOf (event .event-at .result) .time) (entriesFrom (form begun) (a .events .now) (begun .before .event-count .result - (l .i + 1)) (l .i + 1))) ≡ limits (a .replies .now) 0 (entries (form begun) (a .events .now))
+    → (s && limits (a .replies .now) (entryOf (event .event-in .result) .time) (entriesFrom (form begun) (a .events .now) (begun .before .event-count .result - (l .i + 1)) (l .i + 1))) ≡ limits (a .replies .now) 0 (entries (form begun) (a .events .now))
 goes c s e =
     let event = c .before .before .before in
     let more = event .before in
     let begun = more .before .before in
     let l = more .before .loop in
     let a = start begun .args in
-    sym (limits-go (form begun) (a .replies .now) (a .events .now) (begun .before .event-count .result) (l .i) (l .last) (entryOf (event .event-at .result)) (event .event-at .ensures)
+    sym (limits-go (form begun) (a .replies .now) (a .events .now) (begun .before .event-count .result) (l .i) (l .last) (entryOf (event .event-in .result)) (event .event-in .ensures)
     (more .loop-test .taken) s (e ∙ c .sound .ensures) (c .before .if3 .left)) ∙ l .inv .1
 
 event-size-requires : tie.Need-event-size-requires Inv-loop μ-loop
@@ -72,8 +72,8 @@ returns-2 c =
 loop-holds : tie.Need-loop-holds Inv-loop μ-loop
 loop-holds c = (omega arith, rw (sub-zero, c .before .event-count .ensures))
 
-event-at-requires : tie.Need-event-at-requires Inv-loop μ-loop
-event-at-requires c κs = search needs
+event-in-requires : tie.Need-event-in-requires Inv-loop μ-loop
+event-in-requires c κs = rw (← c .before .before .before .event-count .ensures) (c .loop-test .taken)
 
 returns-3 : tie.Need-returns-3 Inv-loop μ-loop
 returns-3 c =
@@ -82,7 +82,7 @@ returns-3 c =
     let l = more .before .loop in
     let a = start (more .before .before) .args in
     let falls = limits-fall (form (more .before .before)) (a .replies .now) (a .events .now) (more .before .before .before .event-count .result) (l .i) (l .last)
-    (entryOf (event .event-at .result)) (event .event-at .ensures) (more .loop-test .taken) (c .if3 .taken) in
+    (entryOf (event .event-in .result)) (event .event-in .ensures) (more .loop-test .taken) (c .if3 .taken) in
     decided (more .before .before) false (sym falls ∙ l .inv .1)
 
 sound-requires : tie.Need-sound-requires Inv-loop μ-loop
@@ -122,7 +122,7 @@ within-limits-spec =
     event-count-requires
     returns-2
     loop-holds
-    event-at-requires
+    event-in-requires
     returns-3
     sound-requires
     returns-4

@@ -1,32 +1,25 @@
--- `layout::all` meets its contract: the tests before i passed.
+-- `layout::all` meets its contract: what passed up to i and what is left say what all do.
 use Prim.Native.Nat.{_-_, _≤_}
 use native.Mathlib.Omega.{arith}
-use mathlib.Core.Bool.{true, false}
-use mathlib.Core.Path.{_≡_, refl, sym, _∙_}
+use mathlib.Core.Bool.{_&&_}
+use mathlib.Core.Path.{_≡_, refl}
 use lib.ListN.{length, drop}
-use borrow.Author.Tests.{not-true, not-false}
 use Rattle.rules.specs.Logs.{all}
-use Rattle.logs.proofs.Layouts.{all-turn, all-end}
+use Rattle.logs.proofs.Layouts.{all-more, all-last}
 use Rattle.logs.proofs.layout.all.Statement.{statement}
 use Rattle.logs.proofs.layout.all.Tie as tie
 
 abbrev Inv-loop : tie.InvT-loop
-Inv-loop tests i₀ i = (i ≤ length tests) × (all (drop i tests) ≡ all tests)
+Inv-loop tests passed₀ i₀ passed i = (i ≤ length tests) × ((passed && all (drop i tests)) ≡ all tests)
 
 abbrev μ-loop : tie.MeasureT-loop
-μ-loop tests i₀ i = length tests - i
+μ-loop tests passed₀ i₀ passed i = length tests - i
 
 loop-holds : tie.Need-loop-holds Inv-loop μ-loop
 loop-holds c = (omega arith, refl)
 
-shared-slice-read-if1 : tie.Need-shared-slice-read-if1 Inv-loop μ-loop
-shared-slice-read-if1 c = omega arith
-
-returns : tie.Need-returns Inv-loop μ-loop
-returns c =
-    let l = c .before .before .before in
-    let failed = all-turn (l .before .args .tests .now) (l .loop .i) false (c .before .before .loop-test .taken) (not-true _ (c .if1 .taken)) in
-    sym failed ∙ l .loop .inv .1
+shared-slice-read-passed : tie.Need-shared-slice-read-passed Inv-loop μ-loop
+shared-slice-read-passed c = omega arith
 
 add-i : tie.Need-add-i Inv-loop μ-loop
 add-i c = omega arith
@@ -36,14 +29,16 @@ loop-less c = omega arith
 
 loop-again : tie.Need-loop-again Inv-loop μ-loop
 loop-again c =
-    let l = c .before .before .before in
-    let passed = all-turn (l .before .args .tests .now) (l .loop .i) true (c .before .before .loop-test .taken) (not-false _ (c .if1 .left)) in
-    (omega arith, sym passed ∙ l .loop .inv .1)
+    let more = c .before in
+    let l = more .before .loop in
+    let tests = more .before .before .args .tests .now in
+    (omega arith, all-more tests (l .i) (l .passed) (all tests) (more .loop-test .taken) (l .inv .1))
 
-returns-2 : tie.Need-returns-2 Inv-loop μ-loop
-returns-2 c =
-    let l = c .before in
-    sym (all-end (l .before .args .tests .now) (l .loop .i) (c .loop-test .left)) ∙ l .loop .inv .1
+returns : tie.Need-returns Inv-loop μ-loop
+returns c =
+    let l = c .before .loop in
+    let tests = c .before .before .args .tests .now in
+    all-last tests (l .i) (l .passed) (all tests) (c .loop-test .left) (l .inv .1)
 
 pub all-spec : {M : Type 1} → statement M
 all-spec =
@@ -52,9 +47,8 @@ all-spec =
     Inv-loop
     μ-loop
     loop-holds
-    shared-slice-read-if1
-    returns
+    shared-slice-read-passed
     add-i
     loop-less
     loop-again
-    returns-2)
+    returns)

@@ -1,0 +1,32 @@
+-- `bintrochis_line` meets its contract.
+use Rattle.text.specs.declared.Written.the-variants.{Line, NoRoom}
+use Rattle.log_door.proofs.Lining.{lined}
+use borrow.Author.Needs.{needs}
+use Rattle.log_door.proofs.bintrochis_line.Statement.{statement}
+use Rattle.log_door.proofs.bintrochis_line.Tie as tie
+
+line-of-requires : tie.Need-line-of-requires
+line-of-requires c κs = search needs
+
+enum-known-n : tie.Need-enum-known-n
+enum-known-n c = search needs
+
+enum-told : tie.Need-enum-told
+enum-told c = search needs
+
+same-length : tie.Need-same-length
+same-length c = search needs
+
+returns : tie.Need-returns
+returns c = lined {r = Line (c .before .n .given .0 .0)} (c .before .before .before .before .before .line-of .ensures) (c .before .n .given .1)
+
+same-length-2 : tie.Need-same-length-2
+same-length-2 c = search needs
+
+returns-2 : tie.Need-returns-2
+returns-2 c = lined {r = NoRoom} (c .before .before .before .before .line-of .ensures) (c .enum-told .given .1)
+
+pub bintrochis-line-spec : {M : Type 1} → statement M
+bintrochis-line-spec =
+    tie.close
+    (tie.spec line-of-requires enum-known-n enum-told same-length returns same-length-2 returns-2)

@@ -1,0 +1,2 @@
+-- What the door's contract cites besides `rules`.
+pub mod Lined

@@ -1,0 +1,5 @@
+-- The theorems that specs/ states, and what they rest on.
+pub mod Files
+pub mod Long
+pub mod Laws
+pub mod Rows

@@ -1,0 +1,4 @@
+-- The proofs of the functions, the laws that they cite, and what is promised of a run.
+pub mod Lining
+pub mod Batching
+pub mod Promises

@@ -1,0 +1,11 @@
+//! The line of a log by the proved library, `crates/log_door`.
+
+extern "C" {
+    fn bintrochis_line(log: *const u8, log_length: usize, line: *mut u8, room: usize) -> usize;
+}
+
+/// Writes the line at the buffer's front and returns its length, or 0 where there is no room for it.
+pub fn line(log: &[u8], line: &mut [u8]) -> usize {
+    // SAFETY: each pointer has as many bytes behind it as its length says, and the two slices do not overlap.
+    unsafe { bintrochis_line(log.as_ptr(), log.len(), line.as_mut_ptr(), line.len()) }
+}

@@ -1,0 +1,94 @@
+# shellcheck shell=bash disable=SC2154,SC2094
+# ./udslogs: what it reads, what it prints, and what it says where one of the two fails. `scripts/shell-tests udslogs` runs this.
+
+good="$room/one good.log"
+scripts/hex-to-log <examples/02-wait-notice-first.hex >"$good"
+line='positive 900 2 1 4142'
+badlog='badlog 0 0 0 -'
+list=crates/replay/data/logs
+
+# The programs are built before they are tested.
+./udslogs </dev/null || return
+./udslog </dev/null >/dev/null || return
+
+framed() { # framed FILE..: each file after its length
+    local file size
+    for file; do
+        size=$(wc -c <"$file")
+        printf '%08x' "$size" | sed 's/../\\x&/g' | xargs -0 printf
+        cat "$file"
+    done
+}
+framed "$good" >"$room/one.logs"
+
+# Reading.
+input() { ./udslogs <"$room/one.logs"; }
+empty() { ./udslogs </dev/null; }
+whole_list() { ./udslogs "$list.bin" | cmp - "$list.expected" && echo same; }
+pieces() { (head -c 100000 "$list.bin" && sleep 0.2 && tail -c +100001 "$list.bin") | ./udslogs | cmp - "$list.expected" && echo same; }
+byte_by_byte() { for ((i = 1; i <= $(wc -c <"$room/one.logs"); i++)); do tail -c +$i "$room/one.logs" | head -c 1; done | ./udslogs; }
+several() { ./udslogs "$room/one.logs" - "$room/one.logs" <"$room/one.logs"; }
+as_udslog() { # the examples, one by one and as one file
+    local file names=()
+    for file in examples/*.hex; do
+        names+=("$room/$(basename "$file").log")
+        scripts/hex-to-log <"$file" >"${names[-1]}"
+    done
+    framed "${names[@]}" | ./udslogs | cmp - <(./udslog "${names[@]}" | sed 's/^.*: //') && echo same
+}
+bad_inside() { (framed "$good" /dev/null "$good" examples/02-wait-notice-first.hex "$good") | ./udslogs; }
+cut() { head -c "$1" "$room/one.logs" | ./udslogs; }
+too_long() { # 65,536 and 200,000 bytes, which no header can tell
+    local size
+    for size in 65536 200000; do head -c $size /dev/zero >"$room/$size"; done
+    framed "$good" "$room/65536" "$good" "$room/200000" "$good" | ./udslogs
+}
+longest() { # 65,535 bytes are not too many
+    (echo '0001 00 20 0022 00 00 00 00 ffdb 0024 0000 ffff 0000 ffff ffff 00000032 00001388 00000000' | scripts/hex-to-log && head -c 65499 /dev/zero) >"$room/longest"
+    framed "$room/longest" "$good" "$room/longest" | ./udslogs
+}
+endless() { timeout 20 ./udslogs /dev/zero | head -n 2; }
+try "udslogs: one log" 0 "$line" "" input
+try "udslogs: no log" 0 "" "" empty
+try "udslogs: the list that the gate replays" 0 "same" "" whole_list
+try "udslogs: a pipe fed in pieces" 0 "same" "" pieces
+try "udslogs: a pipe fed byte by byte" 0 "$line" "" byte_by_byte
+try "udslogs: several files are one" 0 "$line"$'\n'"$line"$'\n'"$line" "" several
+try "udslogs: each log's line is udslog's" 0 "same" "" as_udslog
+try "udslogs: a bad log inside is a line and not the end" 0 "$line"$'\n'"$badlog"$'\n'"$line"$'\n'"$badlog"$'\n'"$line" "" bad_inside
+try "udslogs: a file that ends inside a log" 0 "$badlog" "" cut 67
+try "udslogs: a file that ends inside a length" 0 "$badlog" "" cut 3
+try "udslogs: a length without its log" 0 "$badlog" "" cut 4
+try "udslogs: logs that are too long are passed over" 0 "$line"$'\n'"$badlog"$'\n'"$line"$'\n'"$badlog"$'\n'"$line" "" too_long
+try "udslogs: the longest log" 0 "refused 0 0 0 08"$'\n'"$line"$'\n'"refused 0 0 0 08" "" longest
+try "udslogs: input without an end" 1 "$badlog"$'\n'"$badlog" "output*Broken pipe" endless
+
+# What fails.
+missing() { ./udslogs "$room/none" "$room/one.logs"; }
+directory() { ./udslogs <"$room"; }
+closed_input() { timeout 20 ./udslogs <&-; }
+full() { ./udslogs "$list.bin" >/dev/full; }
+closed() { ./udslogs "$room/one.logs" >&-; }
+full_help() { ./udslogs --help >/dev/full; }
+nothing_open() { timeout 20 ./udslogs "$room/one.logs" <&- >&- 2>&-; }
+try "udslogs: a missing file does not keep the next from its lines" 1 "$line" "$room/none*No such file" missing
+try "udslogs: a directory as standard input" 1 "" "standard input*Is a directory" directory
+try "udslogs: closed input" 1 "" "standard input*Bad file descriptor" closed_input
+try "udslogs: full output" 1 "" "output*No space left on device" full
+try "udslogs: closed output" 1 "" "output*Bad file descriptor" closed
+try "udslogs: --help to full output" 1 "" "output*No space left on device" full_help
+try "udslogs: all three closed" 1 "" "" nothing_open
+
+# Usage, and where it stands.
+help() { ./udslogs "$1" | sed -n 1p; }
+try "udslogs: --help" 0 "usage: udslogs [FILE].." "" help --help
+try "udslogs: -h" 0 "usage: udslogs [FILE].." "" help -h
+try "udslogs: an unknown option" 2 "" "no option --colour*usage: udslogs" ./udslogs "$room/one.logs" --colour
+copied() { cp udslogs "$room/" && "$room/udslogs" "$room/one.logs"; }
+tidy() { mkdir "$room/tmp-3" && TMPDIR=$room/tmp-3 ./udslogs "$room/one.logs" && ls -A "$room/tmp-3"; }
+try "udslogs: a copy builds nothing elsewhere" 1 "" "no program to build" copied
+try "udslogs: no temporary file stays" 0 "$line" "" tidy
+memory() { # what it holds hangs on no input: 60 MB of logs in 4 MB of memory
+    for ((i = 0; i < 60; i++)); do cat "$list.bin"; done | (ulimit -v 8000 && exec target/bin/udslogs) | tail -n 1 | cmp - <(tail -n 1 "$list.expected") && echo same
+}
+[ "$(uname -m)" != x86_64 ] || try "udslogs: bounded memory" 0 "same" "" memory
