@@ -14,6 +14,7 @@ ghost use Rattle.rules.specs.Codes.{nameNumber};
 ghost use Rattle.door.specs.Door.{fields};
 ghost use Rattle.host.specs.Served.{InBytes, InNumbers};
 
+mod beside;
 mod stepping;
 
 // The numbers and flags are those of the log's header, beside them the limit of notices; `addressed` says that an event has twelve bytes, its source address last, and
