@@ -40,7 +40,7 @@ pub const DONE: u8 = 0;
 
 // A slice of the proved library is a pointer and a length.
 extern "C" {
-    fn bintrochis_call(
+    fn bintrochis_door_call(
         call: u8,
         flags: u8,
         value: u16,
@@ -64,7 +64,7 @@ extern "C" {
         answer: *mut u64,
     ) -> u8;
 
-    fn bintrochis_call_alfid(
+    fn bintrochis_door_call_alfid(
         call: u8,
         flags: u8,
         value: u16,
@@ -92,7 +92,7 @@ extern "C" {
 
     fn bintrochis_name_number(code: u8) -> u8;
 
-    fn bintrochis_begin(
+    fn bintrochis_door_begin(
         call: u8,
         flags: u8,
         value: u16,
@@ -111,7 +111,7 @@ extern "C" {
         state: *mut u64,
     ) -> u8;
 
-    fn bintrochis_begin_alfid(
+    fn bintrochis_door_begin_alfid(
         call: u8,
         flags: u8,
         value: u16,
@@ -132,7 +132,7 @@ extern "C" {
         state: *mut u64,
     ) -> u8;
 
-    fn bintrochis_event(
+    fn bintrochis_door_event(
         state: *mut u64,
         request: *const u8,
         request_length: usize,
@@ -145,7 +145,7 @@ extern "C" {
         replies_length: usize,
     ) -> u8;
 
-    fn bintrochis_tick(state: *mut u64, now: u64) -> u8;
+    fn bintrochis_door_tick(state: *mut u64, now: u64) -> u8;
 }
 
 /// In place of a limit of notices: none.
@@ -219,7 +219,7 @@ pub fn call(fields: Fields, [p2, p2_star]: [u32; 2], lent: Lent<'_>, answer: &mu
     // as the library writes. The library is proved to touch nothing else, for all numbers.
     unsafe {
         match memory {
-            Memory::Lengths { address, size } => bintrochis_call(
+            Memory::Lengths { address, size } => bintrochis_door_call(
                 call,
                 flags,
                 value,
@@ -248,7 +248,7 @@ pub fn call(fields: Fields, [p2, p2_star]: [u32; 2], lent: Lent<'_>, answer: &mu
                 address_width,
                 size_width,
                 wide,
-            } => bintrochis_call_alfid(
+            } => bintrochis_door_call_alfid(
                 call,
                 flags,
                 value,
@@ -299,7 +299,7 @@ pub fn begin(
     // SAFETY: as in `call`; `state` has as many numbers as the library writes.
     unsafe {
         match memory {
-            Memory::Lengths { address, size } => bintrochis_begin(
+            Memory::Lengths { address, size } => bintrochis_door_begin(
                 call,
                 flags,
                 value,
@@ -323,7 +323,7 @@ pub fn begin(
                 address_width,
                 size_width,
                 wide,
-            } => bintrochis_begin_alfid(
+            } => bintrochis_door_begin_alfid(
                 call,
                 flags,
                 value,
@@ -358,7 +358,7 @@ pub fn event(state: &mut State, request: &[u8], event: Event, replies: &[u8]) ->
     } = event;
     // SAFETY: as in `call`; of the state, whatever its numbers are, the library reads and writes these numbers alone.
     unsafe {
-        bintrochis_event(
+        bintrochis_door_event(
             state.as_mut_ptr(),
             request.as_ptr(),
             request.len(),
@@ -376,7 +376,7 @@ pub fn event(state: &mut State, request: &[u8], event: Event, replies: &[u8]) ->
 /// The time.
 pub fn tick(state: &mut State, now: u64) -> u8 {
     // SAFETY: as in `event`.
-    unsafe { bintrochis_tick(state.as_mut_ptr(), now) }
+    unsafe { bintrochis_door_tick(state.as_mut_ptr(), now) }
 }
 
 #[cfg(test)]

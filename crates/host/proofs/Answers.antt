@@ -1,12 +1,16 @@
 -- From what the code was answered to the numbers of the door, beside a call.
-use Prim.Native.Nat.{ℕ, _*_}
+use Prim.Native.Nat.{ℕ, _*_, _≤_, _<_}
+use native.Mathlib.Omega.{arith}
 use mathlib.Core.Bool.{Bool, true, false, cond}
 use mathlib.Core.Path.{_≡_, refl, sym, _∙_, ap}
-use mathlib.Core.List.{List, [], _∷_}
+use mathlib.Core.List.{List, [], _∷_, _++_}
 use lib.Dec.{leb}
-use lib.ListN.{length}
+use lib.ListN.{length, getD, take, drop}
+use lib.Seq.{take-append-seam}
+use borrow.Author.Tests.{le-leb}
 use Rattle.rules.specs.Blocks.{block, carried}
 use Rattle.rules.specs.Logs.{lineOf}
+use Rattle.log_line.proofs.Longest.{line-fits}
 use Rattle.text.specs.Written.{Wrote}
 use Rattle.text.specs.declared.Written.{Written}
 use Rattle.text.specs.declared.Written.the-variants.{Line, NoRoom}
@@ -73,6 +77,15 @@ replies {l} {q} {before} told e h = record {
   store = h .store;
   buffer = h .buffer;
 }
+
+-- A buffer of 8,222 bytes has room for the line of every log.
+pub always-lined : (log : List ℕ) → ((i : ℕ) → getD log i 0 < 256) → {before after : List ℕ} {r : ℕ} → 8222 ≤ length before → Lined log before r after
+    → (r ≡ length (lineOf log)) × (take r after ≡ lineOf log)
+always-lined log bytes {before} {after} {r} room h =
+    let fits = le-leb (length (lineOf log)) (length before) (omega (arith, line-fits log bytes, room)) in
+    let long : r ≡ length (lineOf log) = h .size ∙ rw fits in
+    let whole : after ≡ lineOf log ++ drop (length (lineOf log)) before = h .line ∙ rw fits in
+    (long, rw (long, whole) (take-append-seam (lineOf log) (drop (length (lineOf log)) before)))
 
 -- At most one answer fits.
 pub line-unique : {log before : List ℕ} {r r′ : ℕ} {a a′ : List ℕ} → Lined log before r a → Lined log before r′ a′ → (r ≡ r′) × (a ≡ a′)

@@ -1,4 +1,4 @@
--- Request Eleven's promise, carried to the numbers of the door: begun and handed a list's events and any ticks, the state's first fifteen numbers are those of `bintrochis_call` over the list.
+-- Request Eleven's promise, carried to the numbers of the door: begun and handed a list's events and any ticks, the state's first fifteen numbers are those of `bintrochis_door_call` over the list.
 use Prim.Native.Nat.{ℕ, _+_, _*_, _/_, _%_, _^_, _≤_, _<_}
 use native.Mathlib.Nat.{mod-eq-of-lt}
 use native.Mathlib.Omega.{arith}

@@ -1,4 +1,4 @@
-// What a host needs beside a call: the line of a log, the blocks of a download, the faults that a mask selects, and the reply of a controller
+// What a host needs beside a call: the door's version, the line of a log, the blocks of a download, the faults that a mask selects, and the reply of a controller
 // on the bench.
 use blocks::Cut;
 use faults::Found;
@@ -10,9 +10,17 @@ ghost use Rattle.rules.specs.Faults.{select};
 ghost use Rattle.faults.specs.Found.{foundOf};
 ghost use Rattle.host.specs.Beside.{Lined, Blocked, placeIn, Replies};
 
+// The version of the door, of which include/bintrochis.h has the same number: 200 is 0.2.0.
+#[no_mangle]
+pub extern "C" fn bintrochis_version() -> u32
+    ensures { λ r. ⌜ r ≡ 200 ⌝ }
+{
+    200
+}
+
 // The line that `udslog` prints of a log, at the front of `line`: how long it is, its newline included. 0 where there is no room, and nothing is touched.
 #[no_mangle]
-pub extern "C" fn bintrochis_line(log: &[u8], line: &mut [u8]) -> usize
+pub extern "C" fn bintrochis_door_line(log: &[u8], line: &mut [u8]) -> usize
     ensures { λ r. ⌜ Lined (now (log .entry)) (now (line .entry)) r (now (line .exit)) ⌝ }
 {
     match log_line::line_of(log, line) {
@@ -23,7 +31,7 @@ pub extern "C" fn bintrochis_line(log: &[u8], line: &mut [u8]) -> usize
 
 // Block k of `data` under the block length that call 11 returned: 0, and its counter, where it begins and how long it is; or refusal 11 or 12, and nothing is touched.
 #[no_mangle]
-pub extern "C" fn bintrochis_block(
+pub extern "C" fn bintrochis_door_block(
     data: &[u8],
     block_length: u64,
     k: u64,
@@ -44,7 +52,7 @@ pub extern "C" fn bintrochis_block(
 
 // How many of the records that call 15 lists share a bit with the mask.
 #[no_mangle]
-pub extern "C" fn bintrochis_faults(mask: u8, records: &[u8]) -> usize
+pub extern "C" fn bintrochis_door_faults(mask: u8, records: &[u8]) -> usize
     ensures { λ r. ⌜ r ≡ length (select mask (now (records .entry))) ⌝ }
 {
     faults::count(mask, records)
@@ -52,7 +60,7 @@ pub extern "C" fn bintrochis_faults(mask: u8, records: &[u8]) -> usize
 
 // Where the k-th of them (from 0) begins, or the largest number.
 #[no_mangle]
-pub extern "C" fn bintrochis_fault(mask: u8, records: &[u8], k: usize) -> usize
+pub extern "C" fn bintrochis_door_fault(mask: u8, records: &[u8], k: usize) -> usize
     ensures { λ r. ⌜ r ≡ placeIn (foundOf (select mask (now (records .entry))) k) ⌝ }
 {
     match faults::selected(mask, records, k) {
@@ -64,7 +72,7 @@ pub extern "C" fn bintrochis_fault(mask: u8, records: &[u8], k: usize) -> usize
 // The reply of a controller on the bench to a request: 0, and how long the reply is that stands at the front of `reply`, which is 0 for silence; or
 // refusal 13, and nothing is touched. A write changes the store.
 #[no_mangle]
-pub extern "C" fn bintrochis_respond(
+pub extern "C" fn bintrochis_door_respond(
     store: &mut [u8],
     request: &[u8],
     reply: &mut [u8],

@@ -1,8 +1,8 @@
--- `host::beside::bintrochis_respond` meets its contract.
+-- `host::beside::bintrochis_door_respond` meets its contract.
 use Rattle.host.proofs.Answers.{replies}
 use borrow.Author.Needs.{needs}
-use Rattle.host.proofs.beside.bintrochis_respond.Statement.{statement}
-use Rattle.host.proofs.beside.bintrochis_respond.Tie as tie
+use Rattle.host.proofs.beside.bintrochis_door_respond.Statement.{statement}
+use Rattle.host.proofs.beside.bintrochis_door_respond.Tie as tie
 
 respond-requires : tie.Need-respond-requires
 respond-requires c κs = search needs
@@ -55,8 +55,8 @@ returns-3 c =
     let start = responded .before .before .before .before .before .before in
     replies (start .args .size .now) (matched .refusal .given .1) (responded .respond .ensures)
 
-pub bintrochis-respond-spec : {M : Type 1} → statement M
-bintrochis-respond-spec =
+pub bintrochis-door-respond-spec : {M : Type 1} → statement M
+bintrochis-door-respond-spec =
     tie.close
     (tie.spec
     respond-requires

@@ -1,4 +1,4 @@
--- `host::stepping::bintrochis_event` meets its contract.
+-- `host::stepping::bintrochis_door_event` meets its contract.
 use mathlib.Core.Path.{_≡_, subst}
 use Rattle.steps.specs.declared.Engine.{Engine}
 use Rattle.steps.specs.declared.Stepped.{Stepped}
@@ -7,8 +7,8 @@ use Rattle.state_numbers.specs.Kept.{AskedIn}
 use Rattle.host.specs.Stepping.{addressIn, sizeIn, entry}
 use Rattle.host.proofs.Ways.{was-settled, asked-nothing, step-refused, step-taken}
 use borrow.Author.Needs.{needs}
-use Rattle.host.proofs.stepping.bintrochis_event.Statement.{statement}
-use Rattle.host.proofs.stepping.bintrochis_event.Tie as tie
+use Rattle.host.proofs.stepping.bintrochis_door_event.Statement.{statement}
+use Rattle.host.proofs.stepping.bintrochis_door_event.Tie as tie
 
 abbrev hands : tie.Start → Engine → Stepped → Type 0
 hands start e y =
@@ -111,8 +111,8 @@ returns-4 c =
     (rw (engine .engine-in .ensures, cut .part .ensures, size .part2 .ensures, cut .before .byte .ensures, size .before .byte2 .ensures) at (handed .event .ensures)) (went .if2 .left)
     (rw (kept .asking .ensures) at (c .told .ensures))
 
-pub bintrochis-event-spec : {M : Type 1} → statement M
-bintrochis-event-spec =
+pub bintrochis-door-event-spec : {M : Type 1} → statement M
+bintrochis-door-event-spec =
     tie.close
     (tie.spec
     array-read-if1

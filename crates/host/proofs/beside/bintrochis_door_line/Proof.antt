@@ -1,8 +1,8 @@
--- `host::beside::bintrochis_line` meets its contract.
+-- `host::beside::bintrochis_door_line` meets its contract.
 use Rattle.host.proofs.Answers.{lined}
 use borrow.Author.Needs.{needs}
-use Rattle.host.proofs.beside.bintrochis_line.Statement.{statement}
-use Rattle.host.proofs.beside.bintrochis_line.Tie as tie
+use Rattle.host.proofs.beside.bintrochis_door_line.Statement.{statement}
+use Rattle.host.proofs.beside.bintrochis_door_line.Tie as tie
 
 line-of-requires : tie.Need-line-of-requires
 line-of-requires c κs = search needs
@@ -25,7 +25,7 @@ same-length-2 c = search needs
 returns-2 : tie.Need-returns-2
 returns-2 c = lined (c .enum-told .given .1) (c .before .before .before .before .line-of .ensures)
 
-pub bintrochis-line-spec : {M : Type 1} → statement M
-bintrochis-line-spec =
+pub bintrochis-door-line-spec : {M : Type 1} → statement M
+bintrochis-door-line-spec =
     tie.close
     (tie.spec line-of-requires enum-known-n enum-told same-length returns same-length-2 returns-2)

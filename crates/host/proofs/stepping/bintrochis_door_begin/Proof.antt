@@ -1,12 +1,12 @@
--- `host::stepping::bintrochis_begin` meets its contract.
+-- `host::stepping::bintrochis_door_begin` meets its contract.
 use mathlib.Core.Path.{_∙_}
 use lib.ListN.{length}
 use borrow.Author.Tests.{not-true, not-false}
 use Rattle.door.proofs.Asking.{told-of, unsuited, suited}
 use Rattle.host.proofs.Ways.{begins-nothing, begins-one, chosen-in-bytes}
 use borrow.Author.Needs.{needs}
-use Rattle.host.proofs.stepping.bintrochis_begin.Statement.{statement}
-use Rattle.host.proofs.stepping.bintrochis_begin.Tie as tie
+use Rattle.host.proofs.stepping.bintrochis_door_begin.Statement.{statement}
+use Rattle.host.proofs.stepping.bintrochis_door_begin.Tie as tie
 
 fields-requires : tie.Need-fields-requires
 fields-requires c κs = search needs
@@ -81,8 +81,8 @@ returns-3 c =
     (rw (set .limited .ensures) at (begun .begin .ensures)))
     (c .told .ensures)
 
-pub bintrochis-begin-spec : {M : Type 1} → statement M
-bintrochis-begin-spec =
+pub bintrochis-door-begin-spec : {M : Type 1} → statement M
+bintrochis-door-begin-spec =
     tie.close
     (tie.spec
     fields-requires

@@ -1,4 +1,4 @@
--- `host::stepping::bintrochis_tick` meets its contract.
+-- `host::stepping::bintrochis_door_tick` meets its contract.
 use Prim.Native.Nat.{ℕ}
 use mathlib.Core.Path.{_≡_, subst}
 use Rattle.steps.specs.declared.Engine.{Engine}
@@ -7,8 +7,8 @@ use Rattle.steps.specs.Stepping.{tickOf}
 use Rattle.state_numbers.specs.Kept.{AskedIn}
 use Rattle.host.proofs.Ways.{was-settled, asked-nothing, step-refused, step-taken}
 use borrow.Author.Needs.{needs}
-use Rattle.host.proofs.stepping.bintrochis_tick.Statement.{statement}
-use Rattle.host.proofs.stepping.bintrochis_tick.Tie as tie
+use Rattle.host.proofs.stepping.bintrochis_door_tick.Statement.{statement}
+use Rattle.host.proofs.stepping.bintrochis_door_tick.Tie as tie
 
 abbrev ticks : ℕ → Engine → Stepped → Type 0
 ticks t e y = y ≡ tickOf e t
@@ -73,8 +73,8 @@ returns-4 c =
     step-taken (a .state .now) (ticks (a .time)) (waits .if1 .left) (subst (AskedIn (a .state .now)) (ask .ask .given .1) (asked .ask-in .ensures))
     (rw (engine .engine-in .ensures) at (ticked .tick .ensures)) (went .if2 .left) (rw (kept .asking .ensures) at (c .told .ensures))
 
-pub bintrochis-tick-spec : {M : Type 1} → statement M
-bintrochis-tick-spec =
+pub bintrochis-door-tick-spec : {M : Type 1} → statement M
+bintrochis-door-tick-spec =
     tie.close
     (tie.spec
     array-read-if1

@@ -1,12 +1,12 @@
--- `host::bintrochis_call` meets its contract: the numbers ask a call, or none.
+-- `host::bintrochis_door_call` meets its contract: the numbers ask a call, or none.
 use mathlib.Core.Path.{_∙_}
 use lib.ListN.{length}
 use borrow.Author.Tests.{not-true, not-false}
 use Rattle.door.proofs.Asking.{told-of, unsuited, suited}
 use Rattle.host.proofs.Serving.{asks-none, asks-in-bytes}
 use borrow.Author.Needs.{needs}
-use Rattle.host.proofs.bintrochis_call.Statement.{statement}
-use Rattle.host.proofs.bintrochis_call.Tie as tie
+use Rattle.host.proofs.bintrochis_door_call.Statement.{statement}
+use Rattle.host.proofs.bintrochis_door_call.Tie as tie
 
 fields-requires : tie.Need-fields-requires
 fields-requires c κs = search needs
@@ -85,8 +85,8 @@ returns-3 c =
     (rw (set .limited .ensures) at (ran .in-session .ensures))
     (c .numbers .ensures)
 
-pub bintrochis-call-spec : {M : Type 1} → statement M
-bintrochis-call-spec =
+pub bintrochis-door-call-spec : {M : Type 1} → statement M
+bintrochis-door-call-spec =
     tie.close
     (tie.spec
     fields-requires

@@ -1,12 +1,12 @@
--- `host::beside::bintrochis_block` meets its contract.
+-- `host::beside::bintrochis_door_block` meets its contract.
 use native.Mathlib.Omega.{arith}
 use mathlib.Core.Path.{sym, _∙_, ap}
 use lib.ListN.{length}
 use Rattle.blocks.proofs.Laws.{Given, given}
 use Rattle.host.proofs.Answers.{refused-block, cut-block}
 use borrow.Author.Needs.{needs}
-use Rattle.host.proofs.beside.bintrochis_block.Statement.{statement}
-use Rattle.host.proofs.beside.bintrochis_block.Tie as tie
+use Rattle.host.proofs.beside.bintrochis_door_block.Statement.{statement}
+use Rattle.host.proofs.beside.bintrochis_door_block.Tie as tie
 
 -- That `counter` gave a counter says that block k begins inside the data.
 inside : (c : tie.After-known-told2) → let a = c .before .before .before .before .before .args in Given (a .«data» .now) (a .block-length) (a .k) (c .before .counter2 .given .0 .0)
@@ -41,8 +41,8 @@ returns-2 c =
     let counted = c .before .before .before .before .before in
     cut-block (c .before .before .before .counter2 .given .1) (counted .counter .ensures) (ap length (c .before .block .ensures))
 
-pub bintrochis-block-spec : {M : Type 1} → statement M
-bintrochis-block-spec =
+pub bintrochis-door-block-spec : {M : Type 1} → statement M
+bintrochis-door-block-spec =
     tie.close
     (tie.spec
     counter-requires
