@@ -1,6 +1,6 @@
 //! What lenient may do where strict deviates: wait for nobody, take another record, bear one notice too many.
 
-use bintrochis::{Answer, Asked, Call, Config, Events, Outcome, Session, LONGEST_REQUEST};
+use bintrochis::{Answer, Asked, Call, Config, Outcome, Recording, Session, LONGEST_REQUEST};
 
 fn said(answer: &Answer) -> String {
     let words = match answer.outcome {
@@ -23,30 +23,20 @@ fn main() {
         ("another record first", None, &[trolley, hoist]),
         ("that notice under a limit of 0", Some(0), &[wait]),
     ];
-    for (name, notice_limit, heard) in cases {
-        let mut replies = Vec::new();
-        let mut events = Events::new();
-        for (time, bytes) in heard {
-            events.reply(*time, replies.len() as u16, bytes.len() as u16);
-            replies.extend_from_slice(bytes);
+    for (name, notice_limit, said_to_us) in cases {
+        let mut heard = Recording::new();
+        for (time, bytes) in said_to_us {
+            heard.reply(*time, bytes);
         }
         for (mode, strict) in [("strict", true), ("lenient", false)] {
             let config = Config {
                 strict,
-                server_timing: true,
-                suppressed: false,
-                overall: None,
                 notice_limit,
-                listens: None,
-                wide: false,
-            };
-            let mut session = Session {
-                p2: 50,
-                p2_star: 5000,
+                ..Config::default()
             };
             let mut buffer = [0; LONGEST_REQUEST];
-            let asked = Asked::new(&call, &config);
-            let answer = asked.answer(&mut session, &mut buffer, events.as_bytes(), &replies);
+            let answer =
+                Asked::new(&call, &config).hear(&mut Session::default(), &mut buffer, &heard);
             println!("{name}, {mode}: {}", said(&answer));
         }
     }

@@ -146,6 +146,40 @@ extern "C" {
     ) -> u8;
 
     fn bintrochis_door_tick(state: *mut u64, now: u64) -> u8;
+
+    fn bintrochis_version() -> u32;
+
+    fn bintrochis_door_line(
+        log: *const u8,
+        log_length: usize,
+        line: *mut u8,
+        line_length: usize,
+    ) -> usize;
+
+    fn bintrochis_door_block(
+        data: *const u8,
+        data_length: usize,
+        block_length: u64,
+        k: u64,
+        block: *mut u64,
+    ) -> u8;
+
+    fn bintrochis_door_fault(
+        mask: u8,
+        records: *const u8,
+        records_length: usize,
+        k: usize,
+    ) -> usize;
+
+    fn bintrochis_door_respond(
+        store: *mut u8,
+        store_length: usize,
+        request: *const u8,
+        request_length: usize,
+        reply: *mut u8,
+        reply_length: usize,
+        length: *mut u64,
+    ) -> u8;
 }
 
 /// In place of a limit of notices: none.
@@ -379,9 +413,66 @@ pub fn tick(state: &mut State, now: u64) -> u8 {
     unsafe { bintrochis_door_tick(state.as_mut_ptr(), now) }
 }
 
+pub fn version() -> u32 {
+    // SAFETY: a number alone comes out.
+    unsafe { bintrochis_version() }
+}
+
+/// How long the line is that stands at the buffer's front; 0 where there is no room.
+pub fn line(log: &[u8], line: &mut [u8]) -> usize {
+    // SAFETY: as in `call`.
+    unsafe { bintrochis_door_line(log.as_ptr(), log.len(), line.as_mut_ptr(), line.len()) }
+}
+
+/// Counter, place and length of block k, or the refusal.
+pub fn block(data: &[u8], block_length: u64, k: u64) -> Result<[u64; 3], u8> {
+    let mut block = [0; 3];
+    // SAFETY: as in `call`; `block` has as many numbers as the library writes.
+    match unsafe {
+        bintrochis_door_block(
+            data.as_ptr(),
+            data.len(),
+            block_length,
+            k,
+            block.as_mut_ptr(),
+        )
+    } {
+        DONE => Ok(block),
+        refusal => Err(refusal),
+    }
+}
+
+/// Where the k-th record that the mask selects begins.
+pub fn fault(mask: u8, records: &[u8], k: usize) -> Option<usize> {
+    // SAFETY: as in `call`.
+    let at = unsafe { bintrochis_door_fault(mask, records.as_ptr(), records.len(), k) };
+    (at != usize::MAX).then_some(at)
+}
+
+/// How long the reply is that stands at the buffer's front, 0 for silence; or the refusal.
+pub fn respond(store: &mut [u8], request: &[u8], reply: &mut [u8]) -> Result<usize, u8> {
+    let mut length = 0;
+    // SAFETY: as in `call`; `length` is the one number that the library writes.
+    match unsafe {
+        bintrochis_door_respond(
+            store.as_mut_ptr(),
+            store.len(),
+            request.as_ptr(),
+            request.len(),
+            reply.as_mut_ptr(),
+            reply.len(),
+            &mut length,
+        )
+    } {
+        DONE => Ok(length as usize),
+        refusal => Err(refusal),
+    }
+}
+
 #[cfg(test)]
 mod tests {
     use super::*;
+    use std::vec::Vec;
 
     const MISUSE: u8 = 1;
     const PLAIN: Memory = Memory::Lengths {
