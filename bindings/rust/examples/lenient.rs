@@ -2,6 +2,9 @@
 
 use bintrochis::{Answer, Asked, Call, Config, Outcome, Recording, Session, LONGEST_REQUEST};
 
+/// A reply and its time.
+type Said = (u32, &'static [u8]);
+
 fn said(answer: &Answer) -> String {
     let words = match answer.outcome {
         Outcome::PositiveResponse(&[high, low]) => {
@@ -15,10 +18,10 @@ fn said(answer: &Answer) -> String {
 fn main() {
     let call = Call::ReadDataByIdentifier { identifier: 0x2101 };
     // replies with their times, and the limit of notices
-    let wait: (u32, &[u8]) = (10, &[0x7f, 0x31, 0x78]);
-    let trolley: (u32, &[u8]) = (8, &[0x62, 0x22, 0x01, 0x07, 0xd0]);
-    let hoist: (u32, &[u8]) = (15, &[0x62, 0x21, 0x01, 0x03, 0xe8]);
-    let cases: [(&str, Option<u8>, &[(u32, &[u8])]); 3] = [
+    let wait: Said = (10, &[0x7f, 0x31, 0x78]);
+    let trolley: Said = (8, &[0x62, 0x22, 0x01, 0x07, 0xd0]);
+    let hoist: Said = (15, &[0x62, 0x21, 0x01, 0x03, 0xe8]);
+    let cases: [(&str, Option<u8>, &[Said]); 3] = [
         ("another service's wait notice", None, &[wait]),
         ("another record first", None, &[trolley, hoist]),
         ("that notice under a limit of 0", Some(0), &[wait]),
