@@ -18,7 +18,7 @@ import enum
 import struct
 
 from . import names
-from .door import DONE, NO_LIMIT, NUMBERS, VERSION, door, numbers
+from .door import DONE, NO_LIMIT, NUMBERS, STATE, VERSION, door, numbers
 
 LONGEST_REQUEST = 4095
 LONGEST_LINE = 8222
@@ -59,6 +59,8 @@ REFUSALS = {
     11: "the block length is below 3",
     12: "there is no block of that number",
     13: "the buffer is too short for the reply",
+    20: "earlier than the last step",
+    21: "the call has settled",
 }
 
 DEVIATIONS = {
@@ -298,27 +300,43 @@ class Call:
             raise Refused(answer.detail)
         return answer.request
 
-    def hear(self, heard, config=Config(), session=Session()):
-        """The answer to what was heard. Without `listens`, address 0 is listened to, where Recording.reply puts replies."""
+    def _fields(self, config):
         flags = STRICT * config.strict + SERVER_TIMING * config.server_timing + SUPPRESSED * config.suppressed
         flags += OVERALL * (config.overall is not None) + SUB * (self.number == 0 and self.sub is not None) + DATA * (self.data is not None)
+        return _fields(self.number, flags, self.value, self.sub or 0, self.memory, config.wide, self.data or b"")
+
+    def _timing(self, config, session):
         limit = NO_LIMIT if config.notice_limit is None else config.notice_limit
-        timing = (session.p2, session.p2_star, config.overall or 0, limit, True, config.listens or 0)
-        return _call(self.number, flags, self.value, self.sub or 0, self.memory, config.wide, timing, self.data or b"", heard.events, heard.replies)
+        return session.p2, session.p2_star, config.overall or 0, limit
+
+    def hear(self, heard, config=Config(), session=Session()):
+        """The answer to what was heard. Without `listens`, address 0 is listened to, where Recording.reply puts replies."""
+        timing = (*self._timing(config, session), True, config.listens or 0)
+        return _call(self._fields(config), timing, heard.events, heard.replies)
+
+    def begin(self, config=Config(), session=Session()):
+        """An Engine that waits for what will be heard; `config.listens` as for `hear`."""
+        return Engine(self._fields(config), (*self._timing(config, session), config.listens or 0))
 
 
-def _call(number, flags, value, sub, memory, wide, timing, data, events, replies):
-    request, told = bytearray(LONGEST_REQUEST), numbers(NUMBERS)
+def _fields(number, flags, value, sub, memory, wide, data):
+    """Which form of a function takes the call, its numbers, and its argument bytes."""
     if isinstance(memory, Memory):
-        fields = (memory.address, memory.size, memory.address_width, memory.size_width, wide)
-        result = door("bintrochis_door_call_alfid", number, flags, value, *fields, *timing, data, request, events, replies, told)
-    else:
-        # a field of more than 16 bytes is refused as one of 16 is, and its length may not fit the door's byte
-        address, size = (_bytes(field)[:16] for field in memory)
-        fields = (sub, len(address), len(size))
-        result = door("bintrochis_door_call", number, flags, value, *fields, *timing, address + size + data, request, events, replies, told)
-    if result != DONE:
+        return "_alfid", (number, flags, value, memory.address, memory.size, memory.address_width, memory.size_width, wide), data
+    # a field of more than 16 bytes is refused as one of 16 is, and its length may not fit the door's byte
+    address, size = (_bytes(field)[:16] for field in memory)
+    return "", (number, flags, value, sub, len(address), len(size)), address + size + data
+
+
+def _call(fields, timing, events, replies):
+    form, numbered, arguments = fields
+    request, told = bytearray(LONGEST_REQUEST), numbers(NUMBERS)
+    if door("bintrochis_door_call" + form, *numbered, *timing, arguments, request, events, replies, told) != DONE:
         raise Misuse("these numbers ask no call")
+    return _answer(told, request, replies)
+
+
+def _answer(told, request, replies):
     outcome, detail, least, most, time, read, notices, data_at, data_length, reply_at, reply_length, block_length, p2, p2_star, sent = told
     return Answer(
         outcome=Outcome(outcome),
@@ -334,6 +352,57 @@ def _call(number, flags, value, sub, memory, wide, timing, data, events, replies
         request=bytes(request[:sent]),
         session=Session(p2, p2_star),
     )
+
+
+class Engine:
+    """A call that is handed one event, or the time, at each step: `request` is sent, and from then on times are in milliseconds since sending.
+    Each step gives the answer once the call has settled, and None before; Refused says that it was not taken and changed nothing."""
+
+    WAITING = 11
+
+    def __init__(self, fields, timing):
+        form, numbered, arguments = fields
+        buffer, self._state = bytearray(LONGEST_REQUEST), numbers(STATE)
+        if door("bintrochis_door_begin" + form, *numbered, *timing, arguments, buffer, self._state) != DONE:
+            raise Misuse("these numbers ask no call")
+        self.request = bytes(buffer[: self._state[14]])
+        self.answer = None
+        self._settled(b"")
+
+    @property
+    def deadline(self):
+        """Until when the call waits; what comes at the deadline is in time. None once it has settled."""
+        return self._state[4] if self.answer is None else None
+
+    def _settled(self, replies):
+        if self.answer is None and self._state[0] != self.WAITING:
+            self.answer = _answer(self._state[:NUMBERS], self.request, replies)
+        return self.answer
+
+    def _event(self, time, kind, length, source, replies):
+        refusal = door("bintrochis_door_event", self._state, self.request, time, kind, 0, length, source, replies)
+        if refusal != DONE:
+            raise Refused(refusal)
+        return self._settled(replies)
+
+    def reply(self, time, said, source=0):
+        said = _bytes(said)
+        return self._event(time, 0, len(said), source, said)
+
+    def idle(self, time):
+        return self._event(time, 1, 0, 0, b"")
+
+    def end(self, time):
+        return self._event(time, 2, 0, 0, b"")
+
+    def error(self, time, number):
+        return self._event(time, 3, number, 0, b"")
+
+    def tick(self, now):
+        refusal = door("bintrochis_door_tick", self._state, now)
+        if refusal != DONE:
+            raise Refused(refusal)
+        return self._settled(b"")
 
 
 def request(sid, sub_function=None, data=None):
@@ -424,8 +493,8 @@ def log(log):
         log[at : at + count * each] for count, at, each in zip(counts[::2], counts[1::2], (1, 10 + 2 * moved, 1))
     )
     memory = (arguments[:address], arguments[address : address + size])
-    timing = (p2, p2_star, overall, NO_LIMIT, bool(moved), listens)
-    return _call(number, flags, value, sub, memory, False, timing, arguments[address + size :], events, replies)
+    fields = _fields(number, flags, value, sub, memory, False, arguments[address + size :])
+    return _call(fields, (p2, p2_star, overall, NO_LIMIT, bool(moved), listens), events, replies)
 
 
 def blocks(data, block_length):

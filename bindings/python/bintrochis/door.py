@@ -8,6 +8,7 @@ import os
 import pathlib
 
 NUMBERS = 15
+STATE = 28
 NO_LIMIT = 65535
 DONE = 0
 VERSION = 200  # 0.2.0
@@ -47,9 +48,14 @@ _TELLS = object()  # numbers that are written to
 
 _timing = (_u32, _u32, _u32, _u16, _bool, _u16)  # P2, P2*, overall, limit, addressed, listens
 _lent = (_IN, _OUT, _IN, _IN, _TELLS)  # arguments or data, request, events, replies, answer
+_begins = (_u32, _u32, _u32, _u16, _u16, _IN, _OUT, _TELLS)  # P2, P2*, overall, limit, listens, arguments or data, request, state
 _functions = {
     "bintrochis_door_call": (_u8, (_u8, _u8, _u16, _u8, _u8, _u8) + _timing + _lent),
     "bintrochis_door_call_alfid": (_u8, (_u8, _u8, _u16, _u64, _u64, _size, _size, _bool) + _timing + _lent),
+    "bintrochis_door_begin": (_u8, (_u8, _u8, _u16, _u8, _u8, _u8) + _begins),
+    "bintrochis_door_begin_alfid": (_u8, (_u8, _u8, _u16, _u64, _u64, _size, _size, _bool) + _begins),
+    "bintrochis_door_event": (_u8, (_TELLS, _IN, _u32, _u16, _u16, _u16, _u16, _IN)),
+    "bintrochis_door_tick": (_u8, (_TELLS, _u64)),
     "bintrochis_door_line": (_size, (_IN, _OUT)),
     "bintrochis_door_block": (_u8, (_IN, _u64, _u64, _TELLS)),
     "bintrochis_door_faults": (_size, (_u8, _IN)),

@@ -216,6 +216,42 @@ class Answers(unittest.TestCase):
         self.assertEqual(READ.hear(heard).outcome, Outcome.TIMEOUT)
 
 
+class Steps(unittest.TestCase):
+    def test_one_event_at_a_time(self):
+        engine = READ.begin(Config(listens=0x7E8))
+        self.assertEqual((engine.request.hex(), engine.deadline, engine.answer), ("222101", 50, None))
+        self.assertIsNone(engine.reply(8, "62 21 01 07 d0", 0x7E9))
+        self.assertIsNone(engine.reply(20, "7f 22 78", 0x7E8))
+        self.assertEqual(engine.deadline, 5020)
+        self.assertIsNone(engine.idle(25))
+        self.assertIsNone(engine.tick(30))
+        for step, number in ((lambda: engine.tick(29), 20), (lambda: engine.reply(40, bytes(4096)), 10), (lambda: engine.idle(29), 20)):
+            with self.assertRaises(uds.Refused) as refused:
+                step()
+            self.assertEqual(refused.exception.number, number)
+        answer = engine.reply(900, COUNT, 0x7E8)
+        self.assertEqual((answer.line, answer.u16(), answer.request), ("positive 900 4 1 03e8", 1000, engine.request))
+        self.assertEqual((engine.answer, engine.deadline), (answer, None))
+        self.assertRaisesRegex(uds.Refused, "refusal 21", engine.tick, 901)
+
+    def test_how_else_it_settles(self):
+        self.assertEqual(READ.begin().tick(51).line, "timeout 50 0 0 -")
+        self.assertIsNone(READ.begin().tick(50))
+        self.assertEqual(READ.begin().end(5).line, "disconnected 5 1 0 -")
+        self.assertEqual(READ.begin().error(5, 7).line, "transport 5 1 0 0007")
+        self.assertEqual(uds.security_access(2).begin().answer.line, "refused 0 0 0 01")
+        self.assertEqual(READ.begin(session=Session(25, 5000)).deadline, 25)
+        granted = uds.diagnostic_session_control(3).begin().reply(5, "50 03 00 19 01 f4")
+        self.assertEqual(granted.session, Session(25, 5000))
+        memory = uds.read_memory_by_address(GOOD).begin()
+        self.assertEqual(memory.reply(5, "63 01 02 03 04").record(), bytes([1, 2, 3, 4]))
+        written = uds.write_memory_by_address(GOOD, "aa").begin()
+        self.assertEqual(written.reply(5, "7d 12 20 01 04").line, "deviation 5 1 0 0d7d12200104")
+        self.assertRaises(uds.Misuse, uds.Call(16).begin)
+        limited = READ.begin(Config(notice_limit=0, overall=9))
+        self.assertEqual(limited.reply(5, "7f 22 78").line, "pendinglimit 5 1 1 -")
+
+
 class Frames(unittest.TestCase):
     def frames(self, *said):
         return [Message(timestamp=1000 + ms / 1000, arbitration_id=source, data=bytes.fromhex(frame)) for ms, source, frame in said]
