@@ -1,6 +1,7 @@
 """The module against the gate's lists of logs, and what it adds: numbers tested, enums, recordings, CAN frames put together."""
 
 import dataclasses
+import doctest
 import pathlib
 import struct
 import sys
@@ -298,6 +299,9 @@ class Frames(unittest.TestCase):
 
 
 class Beside(unittest.TestCase):
+    def test_the_modules_own_example(self):
+        self.assertEqual(doctest.testmod(uds), (0, 4))
+
     def test_blocks(self):
         ten = bytes(range(10))
         self.assertEqual(uds.blocks(ten, 6), [(1, ten[:4]), (2, ten[4:8]), (3, ten[8:])])

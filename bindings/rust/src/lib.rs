@@ -54,6 +54,11 @@ pub use words::{Error, Refusal};
 
 use door::{number, Fields, Lent, Numbers};
 
+/// The example of the crate's README.md, run as a test.
+#[cfg(doctest)]
+#[doc = include_str!("../README.md")]
+struct Readme;
+
 /// The version of the proved library: 200 is 0.2.0.
 pub fn version() -> u32 {
     door::version()
