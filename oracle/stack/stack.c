@@ -13,10 +13,6 @@
 
 #include "bintrochis.h"
 
-/* crates/log_door */
-size_t bintrochis_line(const uint8_t *log, size_t log_length, uint8_t *line, size_t room);
-
-enum { LONGEST_LINE = 8222 };
 enum { ROOM = 1 << 18, HEADER = 36 }; /* the header of version 1; that of version 2 has one byte more */
 
 static _Alignas(64) unsigned char stack[ROOM];
@@ -40,11 +36,11 @@ static uint32_t u32_at(const uint8_t *p) { return (uint32_t)u16_at(p) << 16 | (u
 static void nothing(void) {}
 
 static size_t log_length;
-static uint8_t text[LONGEST_LINE];
+static uint8_t text[BINTROCHIS_LONGEST_LINE];
 
 static void to_its_line(void) {
-    bintrochis_line(header, log_length, text, sizeof text);
-    result = BINTROCHIS_DONE;
+    bintrochis_door_line(header, log_length, text, sizeof text);
+    result = BINTROCHIS_RESULT_DONE;
 }
 
 static void in_bytes(void) {
