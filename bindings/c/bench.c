@@ -7,41 +7,37 @@
 
 #include "bintrochis.h"
 
-enum { LONGEST_REPLY = 4095, LONGEST_LINE = 2 * LONGEST_REPLY + 2 };
+enum { LONGEST_LINE = 2 * BINTROCHIS_LONGEST_REPLY + 2 };
 
 struct asked {
     const char *name;
-    uint8_t call, flags;
-    uint16_t value;
-    const uint8_t *data;
-    size_t length;
+    struct bintrochis_ask ask;
 };
 
-static const uint8_t nothing[1];
 static const uint8_t limit[] = {0x0f, 0xa0}; /* 4,000 kg */
+#define READ(identifier) {.call = BINTROCHIS_CALL_READ_DATA_BY_IDENTIFIER, .flags = BINTROCHIS_FLAG_STRICT, .value = (identifier)}
 static const struct asked calls[] = {
-    {"count", BINTROCHIS_READ_DATA_BY_IDENTIFIER, BINTROCHIS_STRICT, 0x2101, nothing, 0},
-    {"limit", BINTROCHIS_READ_DATA_BY_IDENTIFIER, BINTROCHIS_STRICT, 0x2102, nothing, 0},
-    {"limit written", BINTROCHIS_WRITE_DATA_BY_IDENTIFIER, BINTROCHIS_STRICT | BINTROCHIS_DATA, 0x2102, limit, sizeof limit},
-    {"limit", BINTROCHIS_READ_DATA_BY_IDENTIFIER, BINTROCHIS_STRICT, 0x2102, nothing, 0},
-    {"faults confirmed", BINTROCHIS_READ_DTC_INFORMATION, BINTROCHIS_STRICT, 0x08, nothing, 0},
-    {"identifier 2103", BINTROCHIS_READ_DATA_BY_IDENTIFIER, BINTROCHIS_STRICT, 0x2103, nothing, 0},
-    {"still there", BINTROCHIS_TESTER_PRESENT, BINTROCHIS_STRICT | BINTROCHIS_SUPPRESSED, 0, nothing, 0},
+    {"count", READ(0x2101)},
+    {"limit", READ(0x2102)},
+    {"limit written",
+     {.call = BINTROCHIS_CALL_WRITE_DATA_BY_IDENTIFIER,
+      .flags = BINTROCHIS_FLAG_STRICT | BINTROCHIS_FLAG_DATA,
+      .value = 0x2102,
+      .arguments = limit,
+      .arguments_length = sizeof limit}},
+    {"limit", READ(0x2102)},
+    {"faults confirmed", {.call = BINTROCHIS_CALL_READ_DTC_INFORMATION, .flags = BINTROCHIS_FLAG_STRICT, .value = 0x08}},
+    {"identifier 2103", READ(0x2103)},
+    {"still there", {.call = BINTROCHIS_CALL_TESTER_PRESENT, .flags = BINTROCHIS_FLAG_STRICT | BINTROCHIS_FLAG_SUPPRESSED}},
 };
 
 static uint8_t request[BINTROCHIS_LONGEST_REQUEST];
-static uint8_t reply[LONGEST_REPLY];
-static uint64_t answer[BINTROCHIS_NUMBERS];
-
-/* The call, with what was heard. */
-static bool called(struct asked asked, const uint8_t *events, size_t events_length, size_t replies_length) {
-    return bintrochis_call(asked.call, asked.flags, asked.value, 0, 0, 0, 50, 5000, 0, BINTROCHIS_NO_LIMIT, false, 0, asked.data, asked.length,
-                           request, sizeof request, events, events_length, reply, replies_length, answer) == BINTROCHIS_DONE;
-}
+static uint8_t reply[BINTROCHIS_LONGEST_REPLY];
+static struct bintrochis_answer answer;
 
 /* Sends what stands at the front of `request`. */
 static bool sent(void) {
-    for (uint64_t i = 0; i < answer[BINTROCHIS_REQUEST_LENGTH]; i++) {
+    for (uint64_t i = 0; i < answer.request_length; i++) {
         printf("%02x", request[i]);
     }
     printf("\n");
@@ -66,7 +62,7 @@ static int received(void) {
     }
     for (const char *at = line; *at != '\n'; at += 2) {
         const int high = digit(at[0]), low = high < 0 ? -1 : digit(at[1]);
-        if (low < 0 || length == LONGEST_REPLY) {
+        if (low < 0 || length == BINTROCHIS_LONGEST_REPLY) {
             return -1;
         }
         reply[length++] = (uint8_t)(16 * high + low);
@@ -75,29 +71,30 @@ static int received(void) {
 }
 
 static void learned(const char *name) {
-    const uint8_t *data = reply + answer[BINTROCHIS_DATA_AT];
-    switch (answer[BINTROCHIS_OUTCOME]) {
-    case BINTROCHIS_POSITIVE:
+    switch (answer.outcome) {
+    case BINTROCHIS_OUTCOME_POSITIVE:
         fprintf(stderr, "%s", name);
-        for (uint64_t i = 0; i < answer[BINTROCHIS_DATA_LENGTH]; i++) {
-            fprintf(stderr, " %02x", data[i]);
+        for (uint64_t i = 0; i < answer.data_length; i++) {
+            fprintf(stderr, " %02x", reply[answer.data_at + i]);
         }
         fprintf(stderr, "\n");
         break;
-    case BINTROCHIS_SUPPRESSED_SILENCE:
+    case BINTROCHIS_OUTCOME_SUPPRESSED:
         fprintf(stderr, "%s: silence, as asked for\n", name);
         break;
-    case BINTROCHIS_NEGATIVE:
-        fprintf(stderr, "%s: refused with code %02" PRIx64 "\n", name, answer[BINTROCHIS_DETAIL]);
+    case BINTROCHIS_OUTCOME_NEGATIVE:
+        fprintf(stderr, "%s: refused with code %02" PRIx64 "\n", name, answer.detail);
         break;
     default:
-        fprintf(stderr, "%s: outcome %" PRIu64 "\n", name, answer[BINTROCHIS_OUTCOME]);
+        fprintf(stderr, "%s: %s\n", name, bintrochis_outcome_word(answer.outcome));
     }
 }
 
 int main(void) {
+    struct bintrochis_lent lent = {.session = {50, 5000}, .request = request, .request_length = sizeof request, .replies = reply};
     for (size_t i = 0; i < sizeof calls / sizeof *calls; i++) {
-        if (!called(calls[i], request, 0, 0) || !sent()) {
+        lent.events_length = lent.replies_length = 0;
+        if (bintrochis_call(&calls[i].ask, &lent, &answer) != BINTROCHIS_RESULT_DONE || !sent()) {
             return 1;
         }
         const int length = received();
@@ -106,8 +103,13 @@ int main(void) {
             return 1;
         }
         /* the reply at time 0; silence is no event */
-        const uint8_t event[BINTROCHIS_EVENT] = {0, 0, 0, 0, 0, BINTROCHIS_REPLY, 0, 0, (uint8_t)(length >> 8), (uint8_t)length};
-        if (!called(calls[i], event, length > 0 ? sizeof event : 0, (size_t)length)) {
+        uint8_t event[BINTROCHIS_EVENT];
+        if (length > 0) {
+            lent.events_length = bintrochis_put_event(event, false, (struct bintrochis_event){.length = (uint16_t)length});
+        }
+        lent.events = event;
+        lent.replies_length = (size_t)length;
+        if (bintrochis_call(&calls[i].ask, &lent, &answer) != BINTROCHIS_RESULT_DONE) {
             return 1;
         }
         learned(calls[i].name);

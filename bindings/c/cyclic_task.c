@@ -28,57 +28,66 @@ static struct controller {
     uint16_t address;
     size_t heard; /* messages handed over */
     uint8_t request[ROOM];
-    uint64_t state[BINTROCHIS_STATE];
+    struct bintrochis_state state;
 } controllers[] = {{.name = "hoist", .address = 0x7e8}, {.name = "trolley", .address = 0x7e9}};
 enum { CONTROLLERS = sizeof controllers / sizeof *controllers };
 
-static bool waits(const struct controller *c) { return c->state[BINTROCHIS_OUTCOME] == BINTROCHIS_WAITING; }
+static bool waits(const struct controller *c) { return bintrochis_waits(&c->state); }
 
 static bool begin(struct controller *c) {
-    static const uint8_t nothing[1] = {0};
-    if (bintrochis_begin(BINTROCHIS_READ_DATA_BY_IDENTIFIER, BINTROCHIS_STRICT, 0x2101, 0, 0, 0, P2, P2_STAR, 0, BINTROCHIS_NO_LIMIT,
-                         c->address, nothing, 0, c->request, sizeof c->request, c->state) != BINTROCHIS_DONE) {
+    const struct bintrochis_ask ask = {
+        .call = BINTROCHIS_CALL_READ_DATA_BY_IDENTIFIER,
+        .flags = BINTROCHIS_FLAG_STRICT,
+        .value = 0x2101,
+        .listens = c->address,
+    };
+    const struct bintrochis_lent lent = {.session = {P2, P2_STAR}, .request = c->request, .request_length = sizeof c->request};
+    if (bintrochis_begin(&ask, &lent, &c->state) != BINTROCHIS_RESULT_DONE) {
         return false;
     }
     printf("%s: send", c->name);
-    for (uint64_t i = 0; i < c->state[BINTROCHIS_REQUEST_LENGTH]; i++) {
+    for (uint64_t i = 0; i < c->state.answer.request_length; i++) {
         printf(" %02x", c->request[i]);
     }
-    printf(", deadline %" PRIu64 " ms\n", c->state[BINTROCHIS_STATE_DEADLINE]);
+    printf(", deadline %" PRIu64 " ms\n", c->state.answer.time);
     return waits(c);
 }
 
 /* What was decided. `replies` are the bytes lent with the step that settled it. */
 static void decided(const struct controller *c, const uint8_t *replies) {
-    if (c->state[BINTROCHIS_OUTCOME] == BINTROCHIS_POSITIVE && c->state[BINTROCHIS_DATA_LENGTH] == 2) {
-        const uint8_t *data = replies + c->state[BINTROCHIS_DATA_AT];
+    const struct bintrochis_answer *answer = &c->state.answer;
+    if (answer->outcome == BINTROCHIS_OUTCOME_POSITIVE && answer->data_length == 2) {
+        const uint8_t *data = replies + answer->data_at;
         printf("count %d", data[0] * 256 + data[1]);
-    } else if (c->state[BINTROCHIS_OUTCOME] == BINTROCHIS_TIMEOUT) {
-        printf("timeout");
     } else {
-        printf("outcome %" PRIu64, c->state[BINTROCHIS_OUTCOME]);
+        printf("%s", bintrochis_outcome_word(answer->outcome));
     }
-    printf(" at %" PRIu64 " ms, events %" PRIu64 ", notices %" PRIu64 "\n", c->state[BINTROCHIS_TIME], c->state[BINTROCHIS_EVENTS],
-           c->state[BINTROCHIS_NOTICES]);
+    printf(" at %" PRIu64 " ms, events %" PRIu64 ", notices %" PRIu64 "\n", answer->time, answer->events, answer->notices);
+}
+
+/* Lends the request that was sent, and the message for this event alone. */
+static uint8_t heard(struct controller *c, const struct message *m) {
+    const struct bintrochis_lent lent = {
+        .request = c->request, .request_length = sizeof c->request, .replies = m->bytes, .replies_length = sizeof m->bytes};
+    const struct bintrochis_event event = {.time = m->time, .length = m->length, .source = m->source};
+    return bintrochis_event(&c->state, &lent, &event);
 }
 
 /* One cycle for one controller: a single call. A message has the time at which it came, which may be before this cycle; until all
  * messages are handed over no tick says a later time. */
 static bool cycle(struct controller *c, uint64_t now) {
-    const uint64_t deadline = c->state[BINTROCHIS_STATE_DEADLINE];
+    const uint64_t deadline = c->state.answer.time;
     const struct message *m = c->heard < MESSAGES && channel[c->heard].time <= now ? &channel[c->heard++] : NULL;
-    const uint8_t result = m ? bintrochis_event(c->state, c->request, sizeof c->request, m->time, BINTROCHIS_REPLY, 0, m->length, m->source,
-                                                m->bytes, sizeof m->bytes)
-                             : bintrochis_tick(c->state, now);
-    if (result != BINTROCHIS_DONE) {
+    const uint8_t result = m ? heard(c, m) : bintrochis_tick(&c->state, now);
+    if (result != BINTROCHIS_RESULT_DONE) {
         printf("%s, cycle %" PRIu64 ": refused, %u\n", c->name, now, (unsigned)result);
         return false;
     }
     if (!waits(c)) {
         printf("%s, cycle %" PRIu64 ": settled by %s, ", c->name, now, m ? "an event" : "a tick");
         decided(c, m ? m->bytes : NULL);
-    } else if (c->state[BINTROCHIS_STATE_DEADLINE] != deadline) {
-        printf("%s, cycle %" PRIu64 ": told to wait, deadline %" PRIu64 " ms\n", c->name, now, c->state[BINTROCHIS_STATE_DEADLINE]);
+    } else if (c->state.answer.time != deadline) {
+        printf("%s, cycle %" PRIu64 ": told to wait, deadline %" PRIu64 " ms\n", c->name, now, c->state.answer.time);
     } else if (m) {
         printf("%s, cycle %" PRIu64 ": passed over\n", c->name, now);
     }
@@ -87,10 +96,9 @@ static bool cycle(struct controller *c, uint64_t now) {
 
 /* A step that is refused leaves every number of the state as it was. */
 static void refused(struct controller *c, const char *name, uint64_t now) {
-    uint64_t before[BINTROCHIS_STATE];
-    memcpy(before, c->state, sizeof before);
-    const uint8_t result = bintrochis_tick(c->state, now);
-    printf("%s: refused, %u, state %s\n", name, (unsigned)result, memcmp(before, c->state, sizeof before) ? "CHANGED" : "unchanged");
+    const struct bintrochis_state before = c->state;
+    const uint8_t result = bintrochis_tick(&c->state, now);
+    printf("%s: refused, %u, state %s\n", name, (unsigned)result, memcmp(&before, &c->state, sizeof before) ? "CHANGED" : "unchanged");
 }
 
 int main(void) {
@@ -108,7 +116,7 @@ int main(void) {
         }
     }
     refused(&controllers[0], "a tick behind the decision", UINT64_MAX);
-    if (!begin(&controllers[1]) || bintrochis_tick(controllers[1].state, 20) != BINTROCHIS_DONE) {
+    if (!begin(&controllers[1]) || bintrochis_tick(&controllers[1].state, 20) != BINTROCHIS_RESULT_DONE) {
         return 1;
     }
     refused(&controllers[1], "19 ms behind 20 ms", 19);

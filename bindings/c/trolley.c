@@ -1,9 +1,8 @@
 /* Hoist and trolley answer on one channel, and a late count of the trolley's comes before the hoist's. Who listens to the hoist's address
- * hears the hoist alone, in both functions: the trolley's reply is passed over, and counted among the events read. Without addresses it
- * stands as the hoist's. An address listened to, where events have none, asks no call, and nothing is touched. */
+ * hears the hoist alone, with bytes and with numbers: the trolley's reply is passed over, and counted among the events read. Without addresses it
+ * stands as the hoist's. An address listened to, where events have none, asks no call. */
 #include <inttypes.h>
 #include <stdio.h>
-#include <string.h>
 
 #include "bintrochis.h"
 
@@ -12,16 +11,17 @@ enum { HOIST = 0x7e8, TROLLEY = 0x7e9 };
 /* At 8 ms 63 07 D0 from 7E9, the trolley: 2,000. At 15 ms 63 03 E8 from 7E8, the hoist: 1,000. */
 static const uint8_t replies[] = {0x63, 0x07, 0xd0, 0x63, 0x03, 0xe8};
 static const uint8_t addressed[] = {
-    0, 0, 0, 8,  0, BINTROCHIS_REPLY, 0, 0, 0, 3, 0x07, 0xe9,
-    0, 0, 0, 15, 0, BINTROCHIS_REPLY, 0, 3, 0, 3, 0x07, 0xe8,
+    0, 0, 0, 8,  0, BINTROCHIS_KIND_REPLY, 0, 0, 0, 3, 0x07, 0xe9,
+    0, 0, 0, 15, 0, BINTROCHIS_KIND_REPLY, 0, 3, 0, 3, 0x07, 0xe8,
 };
 static const uint8_t plain[] = {
-    0, 0, 0, 8,  0, BINTROCHIS_REPLY, 0, 0, 0, 3,
-    0, 0, 0, 15, 0, BINTROCHIS_REPLY, 0, 3, 0, 3,
+    0, 0, 0, 8,  0, BINTROCHIS_KIND_REPLY, 0, 0, 0, 3,
+    0, 0, 0, 15, 0, BINTROCHIS_KIND_REPLY, 0, 3, 0, 3,
 };
 
-/* The count: address 2000, size 2. */
-static const uint8_t memory[] = {0x20, 0x00, 0x02};
+/* The count: address 2000, size 2, as bytes and as numbers. */
+static const uint8_t bytes[] = {0x20, 0x00, 0x02};
+static const struct bintrochis_memory memory = {.address = 0x2000, .size = 2, .address_width = 2, .size_width = 1};
 
 struct heard {
     const char *name;
@@ -39,52 +39,39 @@ static const struct heard cases[] = {
     {"no addresses, but the hoist's listened to", false, HOIST, plain, sizeof plain},
 };
 
-enum { ROOM = 16, UNTOUCHED = 0xa5 };
-static uint8_t request[ROOM];
-static uint64_t answer[BINTROCHIS_NUMBERS];
-
-static bool untouched(void) {
-    for (size_t i = 0; i < ROOM; i++) {
-        if (request[i] != UNTOUCHED) {
-            return false;
-        }
-    }
-    for (size_t i = 0; i < BINTROCHIS_NUMBERS; i++) {
-        if (answer[i] != UNTOUCHED) {
-            return false;
-        }
-    }
-    return true;
-}
-
-static uint8_t asked(struct heard heard, bool alfid) {
-    memset(request, UNTOUCHED, sizeof request);
-    for (size_t i = 0; i < BINTROCHIS_NUMBERS; i++) {
-        answer[i] = UNTOUCHED;
-    }
+static uint8_t asked(struct heard heard, bool alfid, struct bintrochis_answer *answer) {
+    uint8_t request[16];
+    struct bintrochis_ask ask = {
+        .call = BINTROCHIS_CALL_READ_MEMORY_BY_ADDRESS,
+        .flags = BINTROCHIS_FLAG_STRICT,
+        .addressed = heard.addressed,
+        .listens = heard.listens,
+    };
+    struct bintrochis_lent lent = {{50, 5000}, request, sizeof request, heard.events, heard.length, replies, sizeof replies};
     if (alfid) {
-        return bintrochis_call_alfid(BINTROCHIS_READ_MEMORY_BY_ADDRESS, BINTROCHIS_STRICT, 0, 0x2000, 2, 2, 1, false, 50, 5000, 0,
-                                     BINTROCHIS_NO_LIMIT, heard.addressed, heard.listens, memory, 0, request, sizeof request,
-                                     heard.events, heard.length, replies, sizeof replies, answer);
+        return bintrochis_call_alfid(&ask, &memory, &lent, answer);
     }
-    return bintrochis_call(BINTROCHIS_READ_MEMORY_BY_ADDRESS, BINTROCHIS_STRICT, 0, 0, 2, 1, 50, 5000, 0, BINTROCHIS_NO_LIMIT,
-                           heard.addressed, heard.listens, memory, sizeof memory, request, sizeof request, heard.events, heard.length,
-                           replies, sizeof replies, answer);
+    ask.address_length = 2;
+    ask.size_length = 1;
+    ask.arguments = bytes;
+    ask.arguments_length = sizeof bytes;
+    return bintrochis_call(&ask, &lent, answer);
 }
 
 static void say(struct heard heard, bool alfid) {
+    struct bintrochis_answer answer;
     printf("%s %s: ", alfid ? "alfid" : "bytes", heard.name);
-    if (asked(heard, alfid) != BINTROCHIS_DONE) {
-        printf("misuse, %s\n", untouched() ? "nothing touched" : "TOUCHED");
+    if (asked(heard, alfid, &answer) != BINTROCHIS_RESULT_DONE) {
+        printf("misuse\n");
         return;
     }
-    if (answer[BINTROCHIS_OUTCOME] == BINTROCHIS_POSITIVE && answer[BINTROCHIS_DATA_LENGTH] == 2) {
-        const uint8_t *data = replies + answer[BINTROCHIS_DATA_AT];
+    if (answer.outcome == BINTROCHIS_OUTCOME_POSITIVE && answer.data_length == 2) {
+        const uint8_t *data = replies + answer.data_at;
         printf("count %d", data[0] * 256 + data[1]);
     } else {
-        printf("outcome %" PRIu64, answer[BINTROCHIS_OUTCOME]);
+        printf("%s", bintrochis_outcome_word(answer.outcome));
     }
-    printf(" at %" PRIu64 " ms, events %" PRIu64 "\n", answer[BINTROCHIS_TIME], answer[BINTROCHIS_EVENTS]);
+    printf(" at %" PRIu64 " ms, events %" PRIu64 "\n", answer.time, answer.events);
 }
 
 int main(void) {

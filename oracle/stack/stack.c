@@ -13,10 +13,6 @@
 
 #include "bintrochis.h"
 
-/* crates/log_door */
-size_t bintrochis_line(const uint8_t *log, size_t log_length, uint8_t *line, size_t room);
-
-enum { LONGEST_LINE = 8222 };
 enum { ROOM = 1 << 18, HEADER = 36 }; /* the header of version 1; that of version 2 has one byte more */
 
 static _Alignas(64) unsigned char stack[ROOM];
@@ -28,10 +24,11 @@ static const uint8_t *header, *arguments, *events, *replies;
 static size_t argument_count, event_bytes, reply_count;
 static bool addressed;
 static uint8_t request[BINTROCHIS_LONGEST_REQUEST], result;
-static uint64_t answer[BINTROCHIS_NUMBERS];
+enum { NUMBERS = sizeof(struct bintrochis_answer) / sizeof(uint64_t), STATE = sizeof(struct bintrochis_state) / sizeof(uint64_t) };
+static uint64_t answer[NUMBERS];
 
 /* The state that a step begins from, and what becomes of it. */
-static uint64_t before[BINTROCHIS_STATE], state[BINTROCHIS_STATE];
+static uint64_t before[STATE], state[STATE];
 
 static size_t u16_at(const uint8_t *p) { return (size_t)p[0] << 8 | p[1]; }
 static uint32_t u32_at(const uint8_t *p) { return (uint32_t)u16_at(p) << 16 | (uint32_t)u16_at(p + 2); }
@@ -39,45 +36,45 @@ static uint32_t u32_at(const uint8_t *p) { return (uint32_t)u16_at(p) << 16 | (u
 static void nothing(void) {}
 
 static size_t log_length;
-static uint8_t text[LONGEST_LINE];
+static uint8_t text[BINTROCHIS_LONGEST_LINE];
 
 static void to_its_line(void) {
-    bintrochis_line(header, log_length, text, sizeof text);
-    result = BINTROCHIS_DONE;
+    bintrochis_door_line(header, log_length, text, sizeof text);
+    result = BINTROCHIS_RESULT_DONE;
 }
 
 static void in_bytes(void) {
     const uint8_t *times = header + 24 + addressed;
     const uint16_t listens = addressed ? (uint16_t)u16_at(header + 9) : header[9];
-    result = bintrochis_call(header[2], header[3], (uint16_t)u16_at(header + 4), header[6], header[7], header[8], u32_at(times),
-                             u32_at(times + 4), u32_at(times + 8), BINTROCHIS_NO_LIMIT, addressed, listens, arguments, argument_count,
+    result = bintrochis_door_call(header[2], header[3], (uint16_t)u16_at(header + 4), header[6], header[7], header[8], u32_at(times),
+                             u32_at(times + 4), u32_at(times + 8), UINT16_MAX, addressed, listens, arguments, argument_count,
                              request, sizeof request, events, event_bytes, replies, reply_count, answer);
 }
 
 static void begins(void) {
     const uint8_t *times = header + 24 + addressed;
-    result = bintrochis_begin(header[2], header[3], (uint16_t)u16_at(header + 4), header[6], header[7], header[8], u32_at(times),
-                              u32_at(times + 4), u32_at(times + 8), BINTROCHIS_NO_LIMIT, addressed ? (uint16_t)u16_at(header + 9) : 0, arguments,
+    result = bintrochis_door_begin(header[2], header[3], (uint16_t)u16_at(header + 4), header[6], header[7], header[8], u32_at(times),
+                              u32_at(times + 4), u32_at(times + 8), UINT16_MAX, addressed ? (uint16_t)u16_at(header + 9) : 0, arguments,
                               argument_count, request, sizeof request, state);
 }
 
 /* Of the events the first. */
 static void hands_over(void) {
-    result = bintrochis_event(state, request, sizeof request, u32_at(events), (uint16_t)u16_at(events + 4), (uint16_t)u16_at(events + 6),
+    result = bintrochis_door_event(state, request, sizeof request, u32_at(events), (uint16_t)u16_at(events + 4), (uint16_t)u16_at(events + 6),
                               (uint16_t)u16_at(events + 8), addressed ? (uint16_t)u16_at(events + 10) : 0, replies, reply_count);
 }
 
-static void ticks(void) { result = bintrochis_tick(state, UINT64_MAX); }
+static void ticks(void) { result = bintrochis_door_tick(state, UINT64_MAX); }
 
 static void in_numbers(void) {
-    result = bintrochis_call_alfid(header[2], header[3], header[2] > 10 ? 0x0102 : 0, 0x0102030405060708, 0x1112131415161718, 8, 8, false, 50,
-                                   5000, 0, BINTROCHIS_NO_LIMIT, false, 0, arguments, argument_count, request, sizeof request, events,
+    result = bintrochis_door_call_alfid(header[2], header[3], header[2] > 10 ? 0x0102 : 0, 0x0102030405060708, 0x1112131415161718, 8, 8, false, 50,
+                                   5000, 0, UINT16_MAX, false, 0, arguments, argument_count, request, sizeof request, events,
                                    event_bytes, replies, reply_count, answer);
 }
 
 static void begins_in_numbers(void) {
-    result = bintrochis_begin_alfid(header[2], header[3], header[2] > 10 ? 0x0102 : 0, 0x0102030405060708, 0x1112131415161718, 8, 8, false, 50,
-                                    5000, 0, BINTROCHIS_NO_LIMIT, 0, arguments, argument_count, request, sizeof request, state);
+    result = bintrochis_door_begin_alfid(header[2], header[3], header[2] > 10 ? 0x0102 : 0, 0x0102030405060708, 0x1112131415161718, 8, 8, false, 50,
+                                    5000, 0, UINT16_MAX, 0, arguments, argument_count, request, sizeof request, state);
 }
 
 static void enter(void) { body(); }
@@ -120,7 +117,7 @@ static size_t empty; /* what an empty function takes */
 static void measure(struct taken *kind, void (*of)(void)) {
     const size_t bytes = taken(of);
     memcpy(before, state, sizeof before);
-    if (result != BINTROCHIS_MISUSE && kind->count < MOST) {
+    if (result != BINTROCHIS_RESULT_MISUSE && kind->count < MOST) {
         kind->sizes[kind->count++] = bytes - empty;
     }
 }
@@ -129,7 +126,7 @@ static void measure(struct taken *kind, void (*of)(void)) {
 static void measure_steps(struct taken *kind, void (*begin)(void)) {
     const size_t step = addressed ? BINTROCHIS_ADDRESSED_EVENT : BINTROCHIS_EVENT, all = event_bytes;
     measure(kind, begin);
-    for (; event_bytes >= step && before[BINTROCHIS_OUTCOME] == BINTROCHIS_WAITING; event_bytes -= step, events += step) {
+    for (; event_bytes >= step && before[0] == BINTROCHIS_OUTCOME_WAITING; event_bytes -= step, events += step) {
         measure(&handed, hands_over);
     }
     events -= all - event_bytes;
@@ -187,7 +184,7 @@ int main(int count, char **words) {
         events = arguments + argument_count;
         replies = events + event_bytes;
         measure(&calls, in_bytes);
-        if (result == BINTROCHIS_DONE) {
+        if (result == BINTROCHIS_RESULT_DONE) {
             measure_steps(&begun, begins);
         }
     }
@@ -204,7 +201,7 @@ int main(int count, char **words) {
     for (size_t i = 0; i < sizeof four; i++) {
         for (uint8_t strict = 0; strict < 2; strict++) {
             fields[2] = four[i];
-            fields[3] = (uint8_t)(strict | (four[i] == 6 ? BINTROCHIS_DATA : 0));
+            fields[3] = (uint8_t)(strict | (four[i] == 6 ? BINTROCHIS_FLAG_DATA : 0));
             header = fields;
             arguments = data;
             argument_count = four[i] == 6 ? sizeof data : 0;

@@ -26,18 +26,10 @@ struct Controller<'q> {
 fn begin<'q>(name: &'static str, address: u16, request: &'q mut [u8]) -> Controller<'q> {
     let call = Call::ReadDataByIdentifier { identifier: 0x2101 };
     let config = Config {
-        strict: true,
-        server_timing: false,
-        suppressed: false,
-        overall: None,
-        notice_limit: None,
         listens: Some(address),
-        wide: false,
+        ..Config::default()
     };
-    let session = Session {
-        p2: 50,
-        p2_star: 5000,
-    };
+    let session = Session::default();
     let engine = Asked::new(&call, &config).begin(session, request);
     let bytes = engine.request().iter();
     let bytes: String = bytes.map(|byte| format!(" {byte:02x}")).collect();

@@ -1,7 +1,7 @@
 //! The engine that is handed one event at a time, for a task that cannot wait for a list of events.
 
-use std::error::Error;
-use std::fmt;
+use core::error::Error;
+use core::fmt;
 
 use crate::door::{self, number};
 use crate::{answer_of, Answer, Asked, Session};
@@ -31,6 +31,17 @@ impl Event {
             length,
             source,
         }
+    }
+
+    /// As it stands in a log of version 2; the first ten bytes are those of version 1, which has no source.
+    pub fn to_bytes(self) -> [u8; 12] {
+        let mut bytes = [0; 12];
+        bytes[..4].copy_from_slice(&self.time.to_be_bytes());
+        let fields = [self.kind, self.offset, self.length, self.source];
+        for (at, field) in bytes[4..].chunks_exact_mut(2).zip(fields) {
+            at.copy_from_slice(&field.to_be_bytes());
+        }
+        bytes
     }
 
     pub fn idle(time: u32) -> Event {
@@ -97,9 +108,7 @@ impl Error for StepRefusal {}
 ///
 /// ```
 /// # use bintrochis::{Asked, Call, Config, Event, Outcome, Session, LONGEST_REQUEST};
-/// # let config = Config {
-/// #     strict: true, server_timing: true, suppressed: false, overall: None, notice_limit: None, listens: None, wide: false,
-/// # };
+/// # let config = Config::default();
 /// let asked = Asked::new(&Call::ReadDataByIdentifier { identifier: 0x2101 }, &config);
 /// let mut buffer = [0; LONGEST_REQUEST];
 /// let mut engine = asked.begin(Session { p2: 50, p2_star: 5000 }, &mut buffer);
@@ -115,9 +124,7 @@ impl Error for StepRefusal {}
 ///
 /// ```compile_fail,E0506
 /// # use bintrochis::{Asked, Call, Config, Session, LONGEST_REQUEST};
-/// # let config = Config {
-/// #     strict: true, server_timing: true, suppressed: false, overall: None, notice_limit: None, listens: None, wide: false,
-/// # };
+/// # let config = Config::default();
 /// let mut buffer = [0; LONGEST_REQUEST];
 /// let mut engine = Asked::new(&Call::TesterPresent, &config).begin(Session { p2: 50, p2_star: 5000 }, &mut buffer);
 /// buffer[0] = 0;
@@ -208,7 +215,7 @@ fn taken(result: u8) -> Result<(), StepRefusal> {
     }
 }
 
-impl Asked {
+impl Asked<'_> {
     /// Begins the call: writes the request into the lent buffer, to be sent, and waits from then on. A call that is refused
     /// has settled with its refusal, and the buffer is as it was.
     ///
@@ -216,13 +223,9 @@ impl Asked {
     pub fn begin<'q>(&self, session: Session, request: &'q mut [u8]) -> Engine<'q> {
         let mut state = [0; door::STATE];
         let timing = [session.p2, session.p2_star];
-        let result = door::begin(
-            self.fields,
-            timing,
-            &self.arguments,
-            &mut *request,
-            &mut state,
-        );
+        let result = self.with_arguments(|arguments| {
+            door::begin(self.fields, timing, arguments, &mut *request, &mut state)
+        });
         assert_eq!(result, door::DONE, "the fields of {self:?} ask no call");
         Engine {
             state,

@@ -1,30 +1,90 @@
 //! Bintrochis for Rust: a UDS client (ISO 14229-1) in which every call is proved.
 //!
-//! A call is judged from what was heard. [`Asked::answer`] writes the request into a lent buffer and judges a list of events, each
-//! with its time since sending: with no events it gives the request to send, and with what came back the answer. [`Asked::begin`]
-//! is for a task that cannot wait for a list: its [`Engine`] is handed one event or the time in each cycle. Nothing here
-//! sends or waits. This crate turns numbers into enums and places into slices; the proved library does the rest.
+//! A call is judged from what was heard. [`Asked::request`] writes the bytes to send into a lent buffer, and [`Asked::hear`] judges a
+//! [`Recording`] of what came back, each event with its time since sending. [`Client`] does both over a [`Transport`]: it sends, listens
+//! until the call is settled, and keeps the session. [`Asked::begin`] is for a task that cannot wait: its [`Engine`] is handed one event
+//! or the time in each cycle.
+//!
+//! ```
+//! use bintrochis::{Asked, Call, Config, Recording, Session, LONGEST_REQUEST};
+//!
+//! let asked = Asked::new(&Call::ReadDataByIdentifier { identifier: 0x2101 }, &Config::default());
+//! let mut buffer = [0; LONGEST_REQUEST];
+//! assert_eq!(asked.request(&mut buffer)?, [0x22, 0x21, 0x01]);
+//!
+//! // At 20 ms the controller asks for patience, at 900 ms it tells the hoist's count.
+//! let (mut events, mut replies) = ([0; 64], [0; 64]);
+//! let mut heard = Recording::lent(&mut events, &mut replies);
+//! heard.reply(20, &[0x7f, 0x22, 0x78]).reply(900, &[0x62, 0x21, 0x01, 0x03, 0xe8]);
+//! let answer = asked.hear(&mut Session::default(), &mut buffer, &heard);
+//! assert_eq!(answer.response()?.record()?.u16()?, 1000);
+//! assert_eq!((answer.time, answer.notices), (900, 1));
+//! # Ok::<(), bintrochis::Error>(())
+//! ```
+//!
+//! There is no `std` here and no allocation; the feature `alloc` adds a [`Recording`] that grows. What this crate adds to the proved
+//! library has no proof: `door.rs`, the only `unsafe` code, hands slices on as pointers and lengths, and the rest turns numbers into
+//! enums and places into slices. It is tested (`tests/`), and it is short enough to be read.
+#![no_std]
 #![deny(unsafe_code)]
 
+#[cfg(feature = "alloc")]
+extern crate alloc;
+#[cfg(test)]
+extern crate std;
+
+mod beside;
+mod client;
 #[allow(unsafe_code)]
 mod door;
 mod engine;
 mod names;
+mod recording;
+mod response;
+mod words;
 
-use std::fmt;
+use core::fmt;
 
+pub use beside::{line, respond, Blocks, LONGEST_LINE};
+pub use client::{Client, Failure, Heard, Transport};
 pub use engine::{Engine, Event, StepRefusal};
+pub use recording::Recording;
+pub use response::{Fault, Faults, Record, Response};
+pub use words::{Error, Refusal};
 
 use door::{number, Fields, Lent, Numbers};
 
+/// The example of the crate's README.md, run as a test.
+#[cfg(doctest)]
+#[doc = include_str!("../README.md")]
+struct Readme;
+
+/// The version of the proved library: 200 is 0.2.0.
+pub fn version() -> u32 {
+    door::version()
+}
+
 /// No request is longer, so a buffer of so many bytes takes each.
 pub const LONGEST_REQUEST: usize = 4095;
+
+/// No reply is longer.
+pub const LONGEST_REPLY: usize = 4095;
 
 /// The session record, in milliseconds. Call 1 sets it, if the server's timing is taken.
 #[derive(Debug, Clone, Copy, PartialEq, Eq)]
 pub struct Session {
     pub p2: u32,
     pub p2_star: u32,
+}
+
+impl Default for Session {
+    /// The Rust's defaults.
+    fn default() -> Session {
+        Session {
+            p2: 50,
+            p2_star: 5000,
+        }
+    }
 }
 
 /// How a call is made.
@@ -38,11 +98,26 @@ pub struct Config {
     pub overall: Option<u32>,
     /// How many notices (NRC 0x78) a call bears; the one after ends it with [`Outcome::PendingLimit`]. None if left out.
     pub notice_limit: Option<u8>,
-    /// The address listened to on a channel that several controllers answer on: events are [`AddressedEvents`], and replies from
-    /// other addresses are passed over. If left out, events are [`Events`], which have no addresses.
+    /// The address listened to on a channel that several controllers answer on: replies from other addresses are passed over. If left
+    /// out, replies have no address.
     pub listens: Option<u16>,
     /// The `alfid` forms take widths of 1 to 15 bytes, padded with zeros on the left, and not only of 1 to 8.
     pub wide: bool,
+}
+
+impl Default for Config {
+    /// The Rust's defaults: strict, and the server's timing is taken.
+    fn default() -> Config {
+        Config {
+            strict: true,
+            server_timing: true,
+            suppressed: false,
+            overall: None,
+            notice_limit: None,
+            listens: None,
+            wide: false,
+        }
+    }
 }
 
 /// Address and size: bytes, or numbers with a width in bytes each.
@@ -212,103 +287,6 @@ pub struct Answer<'q, 'r> {
     pub request: &'q [u8],
 }
 
-/// What was heard, each event in ten bytes as in a log of version 1: no addresses.
-#[derive(Debug, Clone, Default, PartialEq, Eq)]
-pub struct Events(Vec<u8>);
-
-impl Events {
-    pub fn new() -> Events {
-        Events::default()
-    }
-
-    fn push(&mut self, event: Event) -> &mut Events {
-        extend(
-            &mut self.0,
-            event.time,
-            &[event.kind, event.offset, event.length],
-        );
-        self
-    }
-
-    /// A reply: these bytes of the reply bytes.
-    pub fn reply(&mut self, time: u32, offset: u16, length: u16) -> &mut Events {
-        self.push(Event::reply(time, offset, length, 0))
-    }
-
-    pub fn idle(&mut self, time: u32) -> &mut Events {
-        self.push(Event::idle(time))
-    }
-
-    pub fn end(&mut self, time: u32) -> &mut Events {
-        self.push(Event::end(time))
-    }
-
-    pub fn error(&mut self, time: u32, number: u16) -> &mut Events {
-        self.push(Event::error(time, number))
-    }
-
-    pub fn as_bytes(&self) -> &[u8] {
-        &self.0
-    }
-}
-
-/// What was heard on a channel that several controllers answer on, each event in twelve bytes as in a log of version 2: the source
-/// address last. Idle, end and error concern everyone, and have address 0.
-#[derive(Debug, Clone, Default, PartialEq, Eq)]
-pub struct AddressedEvents(Vec<u8>);
-
-impl AddressedEvents {
-    pub fn new() -> AddressedEvents {
-        AddressedEvents::default()
-    }
-
-    fn push(&mut self, event: Event) -> &mut AddressedEvents {
-        let Event {
-            time,
-            kind,
-            offset,
-            length,
-            source,
-        } = event;
-        extend(&mut self.0, time, &[kind, offset, length, source]);
-        self
-    }
-
-    /// A reply from this address: these bytes of the reply bytes.
-    pub fn reply(
-        &mut self,
-        time: u32,
-        offset: u16,
-        length: u16,
-        source: u16,
-    ) -> &mut AddressedEvents {
-        self.push(Event::reply(time, offset, length, source))
-    }
-
-    pub fn idle(&mut self, time: u32) -> &mut AddressedEvents {
-        self.push(Event::idle(time))
-    }
-
-    pub fn end(&mut self, time: u32) -> &mut AddressedEvents {
-        self.push(Event::end(time))
-    }
-
-    pub fn error(&mut self, time: u32, number: u16) -> &mut AddressedEvents {
-        self.push(Event::error(time, number))
-    }
-
-    pub fn as_bytes(&self) -> &[u8] {
-        &self.0
-    }
-}
-
-fn extend(events: &mut Vec<u8>, time: u32, fields: &[u16]) {
-    events.extend(time.to_be_bytes());
-    for field in fields {
-        events.extend(field.to_be_bytes());
-    }
-}
-
 // Flags.
 const STRICT: u8 = 1;
 const SERVER_TIMING: u8 = 2;
@@ -321,14 +299,16 @@ const DATA: u8 = 32;
 const TOO_LONG: usize = 16;
 
 /// A call with its setting, in the form that the proved library takes.
-#[derive(Debug, Clone, PartialEq, Eq)]
-pub struct Asked {
+#[derive(Debug, Clone, Copy, PartialEq, Eq)]
+pub struct Asked<'a> {
     fields: Fields,
-    arguments: Vec<u8>,
+    address: &'a [u8],
+    size: &'a [u8],
+    data: &'a [u8],
 }
 
-impl Asked {
-    pub fn new(call: &Call<'_>, config: &Config) -> Asked {
+impl<'a> Asked<'a> {
+    pub fn new(call: &Call<'a>, config: &Config) -> Asked<'a> {
         let none = Memory::Bytes {
             address: &[],
             size: &[],
@@ -378,31 +358,32 @@ impl Asked {
                 (15, status_mask.into(), None, none, None)
             }
         };
-        let mut arguments = Vec::new();
-        let memory = match memory {
+        let (memory, address, size) = match memory {
             Memory::Bytes { address, size } => {
                 let address = &address[..address.len().min(TOO_LONG)];
                 let size = &size[..size.len().min(TOO_LONG)];
-                arguments.extend([address, size].concat());
-                door::Memory::Lengths {
+                let lengths = door::Memory::Lengths {
                     address: address.len() as u8,
                     size: size.len() as u8,
-                }
+                };
+                (lengths, address, size)
             }
             Memory::Alfid {
                 address,
                 size,
                 address_width,
                 size_width,
-            } => door::Memory::Alfid {
-                address,
-                size,
-                address_width,
-                size_width,
-                wide: config.wide,
-            },
+            } => {
+                let alfid = door::Memory::Alfid {
+                    address,
+                    size,
+                    address_width,
+                    size_width,
+                    wide: config.wide,
+                };
+                (alfid, &[][..], &[][..])
+            }
         };
-        arguments.extend(data.unwrap_or_default());
         let flags = [
             (STRICT, config.strict),
             (SERVER_TIMING, config.server_timing),
@@ -425,11 +406,57 @@ impl Asked {
             addressed: config.listens.is_some(),
             listens: config.listens.unwrap_or(0),
         };
-        Asked { fields, arguments }
+        Asked {
+            fields,
+            address,
+            size,
+            data: data.unwrap_or_default(),
+        }
     }
 
-    /// The whole call. `events` are those of [`Events`], or of [`AddressedEvents`] where the call listens to an address, or a log's;
-    /// `replies` are the bytes that they name parts of.
+    /// Address, size and data in a row, as the library takes them. A request with so much data that it is cut here is refused with 8,
+    /// cut or whole.
+    fn with_arguments<R>(&self, then: impl FnOnce(&[u8]) -> R) -> R {
+        if self.address.is_empty() && self.size.is_empty() {
+            return then(self.data);
+        }
+        let mut row = [0; 2 * TOO_LONG + LONGEST_REQUEST + 1];
+        let data = &self.data[..self.data.len().min(LONGEST_REQUEST + 1)];
+        let mut length = 0;
+        for part in [self.address, self.size, data] {
+            row[length..length + part.len()].copy_from_slice(part);
+            length += part.len();
+        }
+        then(&row[..length])
+    }
+
+    /// The bytes to send, which stand at the front of the lent buffer; or why there are none.
+    pub fn request<'q>(&self, buffer: &'q mut [u8]) -> Result<&'q [u8], Error> {
+        let answer = self.answer(&mut Session::default(), buffer, &[], &[]);
+        match answer.outcome {
+            Outcome::Refused(number) => Err(Error::Refused(Refusal(number))),
+            _ => Ok(answer.request),
+        }
+    }
+
+    /// The whole call over what was heard. [`Answer::response`] says it as a `Result`.
+    ///
+    /// A recording says where each reply comes from, 0 if it was not told; so without [`Config::listens`] 0 is listened to.
+    pub fn hear<'q, 'r>(
+        &self,
+        session: &mut Session,
+        request: &'q mut [u8],
+        heard: &'r Recording<'_>,
+    ) -> Answer<'q, 'r> {
+        let fields = Fields {
+            addressed: true,
+            ..self.fields
+        };
+        Asked { fields, ..*self }.answer(session, request, heard.events(), heard.replies())
+    }
+
+    /// The whole call over a list of events as bytes, a log's: ten for each, or where the call listens to an address twelve, as
+    /// [`Event::to_bytes`] writes them. `replies` are the bytes that they name parts of.
     pub fn answer<'q, 'r>(
         &self,
         session: &mut Session,
@@ -438,18 +465,16 @@ impl Asked {
         replies: &'r [u8],
     ) -> Answer<'q, 'r> {
         let mut numbers: Numbers = [0; number::COUNT];
-        let lent = Lent {
-            arguments: &self.arguments,
-            request: &mut *request,
-            events,
-            replies,
-        };
-        let result = door::call(
-            self.fields,
-            [session.p2, session.p2_star],
-            lent,
-            &mut numbers,
-        );
+        let timing = [session.p2, session.p2_star];
+        let result = self.with_arguments(|arguments| {
+            let lent = Lent {
+                arguments,
+                request: &mut *request,
+                events,
+                replies,
+            };
+            door::call(self.fields, timing, lent, &mut numbers)
+        });
         assert_eq!(result, door::DONE, "the fields of {self:?} ask no call");
         *session = Session {
             p2: numbers[number::P2] as u32,

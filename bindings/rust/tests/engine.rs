@@ -1,10 +1,13 @@
 //! The engine that is handed one event at a time, through the bindings: when it settles and with what, what it knows while it
 //! waits, every refusal of a step and of a call, and that it answers as the whole list does.
 
+mod events;
+
 use bintrochis::{
-    AddressedEvents, Asked, Call, Config, Engine, Event, Memory, Outcome, ProtocolDeviation,
-    Session, StepRefusal, LONGEST_REQUEST,
+    Asked, Call, Config, Engine, Event, Memory, Outcome, ProtocolDeviation, Session, StepRefusal,
+    LONGEST_REQUEST,
 };
+use events::AddressedEvents;
 
 const STRICT: Config = Config {
     strict: true,

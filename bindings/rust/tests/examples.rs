@@ -1,10 +1,13 @@
 //! The ten examples of document 01 through the bindings, the requests of all calls, the list of faults, the limit of notices, several
 //! controllers on one channel, and what the bindings add: enums, slices, a session.
 
+mod events;
+
 use bintrochis::{
-    AddressedEvents, Answer, Asked, Call, Config, Events, Memory, NegativeResponseCode, Outcome,
-    ProtocolDeviation, Session, LONGEST_REQUEST,
+    Answer, Asked, Call, Config, Memory, NegativeResponseCode, Outcome, ProtocolDeviation, Session,
+    LONGEST_REQUEST,
 };
+use events::{AddressedEvents, Events};
 
 const STRICT: Config = Config {
     strict: true,

@@ -3,3 +3,4 @@ pub mod Serving
 pub mod Promises
 pub mod Ways
 pub mod Stepwise
+pub mod Answers

@@ -1,4 +1,4 @@
--- Request Eleven's promise, carried to the numbers of the door: begun and handed a list's events and any ticks, the state's first fifteen numbers are those of `bintrochis_call` over the list.
+-- Request Eleven's promise, carried to the numbers of the door: begun and handed a list's events and any ticks, the state's first fifteen numbers are those of `bintrochis_door_call` over the list.
 use Prim.Native.Nat.{ℕ, _+_, _*_, _/_, _%_, _^_, _≤_, _<_}
 use native.Mathlib.Nat.{mod-eq-of-lt}
 use native.Mathlib.Omega.{arith}
@@ -57,6 +57,7 @@ use Rattle.steps.proofs.Promises.{stays, refused-alike, written, answers-so}
 use Rattle.steps.proofs.Unique.{refused-event, refused-tick}
 use Rattle.door.specs.Door.{fields, isLimit, fits, asksOne, dataIn, limitFor, limitedTo}
 use Rattle.numbers.specs.Numbers.{valuesOf, numbersOf, Tells}
+use Rattle.numbers.proofs.Telling.{needs, long-enough}
 use Rattle.state_numbers.specs.Kept.{number, waits, nine, fifteen, headerIn, sound, AskedIn, askingIn, engineIn, isSet, bit, Told}
 use Rattle.host.specs.Served.{InBytes}
 use Rattle.host.specs.Stepping as door
@@ -92,29 +93,6 @@ outcome-below (answers.fault (answers.deviation8 a b)) = omega arith
 outcome-below (answers.fault answers.badLength) = omega arith
 outcome-below (answers.fault answers.overflow) = omega arith
 outcome-below (answers.refused n) = omega arith
-
--- Some reply bytes are long enough for the place of an outcome, and for one more.
-abbrev needs : Outcome → ℕ
-needs (outcome.PositiveResponse p) = p .at + p .len
-needs outcome.Suppressed = 0
-needs (outcome.NegativeResponse c) = 0
-needs outcome.Timeout = 0
-needs outcome.Disconnected = 0
-needs (outcome.Transport n) = 0
-needs (outcome.Fault f) = 0
-needs (outcome.Refused n) = 0
-needs outcome.PendingLimit = 0
-
-long-enough : (o : Outcome) (replies : List ℕ) → needs o ≤ length replies → InsideOutcome replies o
-long-enough (outcome.PositiveResponse p) replies h = h
-long-enough outcome.Suppressed replies h = tt
-long-enough (outcome.NegativeResponse c) replies h = tt
-long-enough outcome.Timeout replies h = tt
-long-enough outcome.Disconnected replies h = tt
-long-enough (outcome.Transport n) replies h = tt
-long-enough (outcome.Fault f) replies h = tt
-long-enough (outcome.Refused n) replies h = tt
-long-enough outcome.PendingLimit replies h = tt
 
 settled-below : (x : Answered) (told : List ℕ) → Tells x told → number told 0 ≤ 10
 unfolding numbersOf

@@ -1,3 +1,4 @@
 -- What the contracts of `host` cite besides `rules`.
 pub mod Served
 pub mod Stepping
+pub mod Beside

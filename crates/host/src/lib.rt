@@ -14,12 +14,13 @@ ghost use Rattle.rules.specs.Codes.{nameNumber};
 ghost use Rattle.door.specs.Door.{fields};
 ghost use Rattle.host.specs.Served.{InBytes, InNumbers};
 
+mod beside;
 mod stepping;
 
 // The numbers and flags are those of the log's header, beside them the limit of notices; `addressed` says that an event has twelve bytes, its source address last, and
 // `listens` which address is listened to. `arguments` are address, size and data.
 #[no_mangle]
-pub extern "C" fn bintrochis_call(
+pub extern "C" fn bintrochis_door_call(
     call: u8,
     flags: u8,
     value: u16,
@@ -74,7 +75,7 @@ pub extern "C" fn bintrochis_call(
 // The same for the `alfid` forms of calls 5, 6, 11 and 12: "address and size as 64-bit numbers, each with a width in bytes", and the
 // wide setting.
 #[no_mangle]
-pub extern "C" fn bintrochis_call_alfid(
+pub extern "C" fn bintrochis_door_call_alfid(
     call: u8,
     flags: u8,
     value: u16,

@@ -18,9 +18,9 @@ ghost use mathlib.Core.Bool.{true};
 ghost use Rattle.door.specs.Door.{fields};
 ghost use Rattle.host.specs.Stepping.{entry, Ticked, Handed, BegunInBytes, BegunInNumbers};
 
-// Begins a call: the numbers, flags and arguments are those of `bintrochis_call`. 0 and a state; or 1, and nothing is touched.
+// Begins a call: the numbers, flags and arguments are those of `bintrochis_door_call`. 0 and a state; or 1, and nothing is touched.
 #[no_mangle]
-pub extern "C" fn bintrochis_begin(
+pub extern "C" fn bintrochis_door_begin(
     call: u8,
     flags: u8,
     value: u16,
@@ -82,9 +82,9 @@ pub extern "C" fn bintrochis_begin(
     0
 }
 
-// The same for the `alfid` forms of calls 5, 6, 11 and 12, as `bintrochis_call_alfid` takes them.
+// The same for the `alfid` forms of calls 5, 6, 11 and 12, as `bintrochis_door_call_alfid` takes them.
 #[no_mangle]
-pub extern "C" fn bintrochis_begin_alfid(
+pub extern "C" fn bintrochis_door_begin_alfid(
     call: u8,
     flags: u8,
     value: u16,
@@ -158,7 +158,7 @@ pub extern "C" fn bintrochis_begin_alfid(
 
 // One event, with the request that was sent and the reply bytes lent for it. 0 where it was taken; 10, 20 or 21 where it is refused, and 1 where the state is none: then the state stays.
 #[no_mangle]
-pub extern "C" fn bintrochis_event(
+pub extern "C" fn bintrochis_door_event(
     state: &mut [u64; 28],
     request: &[u8],
     time: u32,
@@ -198,7 +198,7 @@ pub extern "C" fn bintrochis_event(
 
 // The time since sending, in milliseconds. The answers are those of an event, 10 aside.
 #[no_mangle]
-pub extern "C" fn bintrochis_tick(state: &mut [u64; 28], time: u64) -> u8
+pub extern "C" fn bintrochis_door_tick(state: &mut [u64; 28], time: u64) -> u8
     ensures { λ r. ⌜ Ticked (now (state .entry)) time r (now (state .exit)) ⌝ }
 {
     let s = *state;

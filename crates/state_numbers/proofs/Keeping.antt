@@ -2,8 +2,8 @@
 use Prim.Native.Nat.{ℕ, _%_, _≤_, _<_}
 use native.Mathlib.Omega.{arith}
 use mathlib.Core.Bool.{true, false}
-use mathlib.Core.Path.{_≡_, _∙_, ap, subst⁻¹}
-use mathlib.Core.List.{List}
+use mathlib.Core.Path.{_≡_, sym, _∙_, ap, subst⁻¹}
+use mathlib.Core.List.{List, _∷_}
 use lib.Dec.{leb}
 use borrow.Author.Tests.{le-leb, lt-leb}
 use Rattle.rules.specs.Logs.{Header}
@@ -13,9 +13,11 @@ use Rattle.log_call.specs.declared.Fields.{Fields}
 use Rattle.log_call.specs.declared.Fields.the-variants as fields
 use Rattle.steps.specs.declared.Engine.{Engine}
 use Rattle.steps.specs.declared.Phase.{Phase}
+use Rattle.steps.specs.declared.Phase.the-variants.{Waiting, Settled}
+use Rattle.numbers.proofs.Telling.{tells-unique}
 use Rattle.door.specs.Door.{limitFor, limitedTo}
 use Rattle.door.proofs.Asking.{told-of}
-use Rattle.state_numbers.specs.Kept.{number, headerIn, sound, AskedIn, Told}
+use Rattle.state_numbers.specs.Kept.{number, nine, fifteen, headerIn, sound, AskedIn, Told}
 
 pub told-in : (e : Engine) (a l : List ℕ) {p : Phase} → e .phase ≡ p → Told e a p l → Told e a (e .phase) l
 told-in e a l is h = subst⁻¹ (λ (p : Phase). Told e a p l) is h
@@ -35,3 +37,9 @@ module _ (l : List ℕ) where
     asks-in {ask = ask} f h limit e =
         let asks = told-of {h = headerIn l} made-is f h in
         (rw (listed, asks .0), ask, asks .1, e ∙ ap (λ n. limitedTo (limitFor n) ask) limit)
+
+-- At most one list of numbers keeps an engine.
+pub told-unique : (e : Engine) (a : List ℕ) (p : Phase) {l l′ : List ℕ} → Told e a p l → Told e a p l′ → l ≡ l′
+told-unique e a (Waiting s) h h′ = h ∙ sym h′
+told-unique e a (Settled x) h h′ =
+    h .2 ∙ ap (λ (told : List ℕ). fifteen told (e .last ∷ 0 ∷ 0 ∷ 0 ∷ nine a)) (tells-unique x (h .1) (h′ .1)) ∙ sym (h′ .2)

@@ -9,8 +9,8 @@ use bintrochis::{Answer, Asked, Config, Engine, Session};
 const FILL: u8 = 0xa5;
 
 /// A case in the form that the proved library takes. Making it is no part of a measurement.
-pub struct Prepared {
-    asked: Asked,
+pub struct Prepared<'c> {
+    asked: Asked<'c>,
     session: Session,
     events: Vec<u8>,
     replies: Vec<u8>,
@@ -18,7 +18,7 @@ pub struct Prepared {
     steps: Vec<bintrochis::Event>,
 }
 
-pub fn prepare(case: &Case) -> Prepared {
+pub fn prepare(case: &Case) -> Prepared<'_> {
     let setting = &case.setting;
     let config = Config {
         strict: setting.strict,
@@ -125,7 +125,7 @@ fn call_of(call: &Call) -> bintrochis::Call<'_> {
 }
 
 /// The call itself, with the session afterwards.
-pub fn call<'q, 'r>(prepared: &'r Prepared, request: &'q mut [u8]) -> (Answer<'q, 'r>, Session) {
+pub fn call<'q, 'r>(prepared: &'r Prepared<'_>, request: &'q mut [u8]) -> (Answer<'q, 'r>, Session) {
     let Prepared {
         asked,
         session,
@@ -139,12 +139,12 @@ pub fn call<'q, 'r>(prepared: &'r Prepared, request: &'q mut [u8]) -> (Answer<'q
 }
 
 /// The call, begun.
-pub fn begin<'q>(prepared: &Prepared, request: &'q mut [u8]) -> Engine<'q> {
+pub fn begin<'q>(prepared: &Prepared<'_>, request: &'q mut [u8]) -> Engine<'q> {
     prepared.asked.begin(prepared.session, request)
 }
 
 /// The call begun, its events one at a time until it settles, and else a tick.
-pub fn stepped<'q, 'r>(prepared: &'r Prepared, request: &'q mut [u8]) -> Option<Answer<'q, 'r>> {
+pub fn stepped<'q, 'r>(prepared: &'r Prepared<'_>, request: &'q mut [u8]) -> Option<Answer<'q, 'r>> {
     let mut engine = begin(prepared, request);
     for &event in &prepared.steps {
         if let Ok(Some(answer)) = engine.event(event, &prepared.replies) {

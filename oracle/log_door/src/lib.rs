@@ -1,11 +1,14 @@
-//! The line of a log by the proved library, `crates/log_door`.
+//! The line of a log by the proved library, which the bindings link: its door itself, without the text that they make of it.
+
+use bintrochis as _;
 
 extern "C" {
-    fn bintrochis_line(log: *const u8, log_length: usize, line: *mut u8, room: usize) -> usize;
+    fn bintrochis_door_line(log: *const u8, log_length: usize, line: *mut u8, room: usize)
+        -> usize;
 }
 
 /// Writes the line at the buffer's front and returns its length, or 0 where there is no room for it.
 pub fn line(log: &[u8], line: &mut [u8]) -> usize {
     // SAFETY: each pointer has as many bytes behind it as its length says, and the two slices do not overlap.
-    unsafe { bintrochis_line(log.as_ptr(), log.len(), line.as_mut_ptr(), line.len()) }
+    unsafe { bintrochis_door_line(log.as_ptr(), log.len(), line.as_mut_ptr(), line.len()) }
 }

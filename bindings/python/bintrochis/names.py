@@ -1,0 +1,27 @@
+# The names of negative response codes by their numbers, under the Rust's names; number 0 has none. Written by scripts/code-table from `named` of rules/specs/Codes.
+
+NAMES = [
+    "",
+    "GeneralReject",
+    "ServiceNotSupported",
+    "SubFunctionNotSupported",
+    "IncorrectMessageLengthOrInvalidFormat",
+    "ResponseTooLong",
+    "BusyRepeatRequest",
+    "ConditionsNotCorrect",
+    "RequestSequenceError",
+    "NoResponseFromSubnetComponent",
+    "FailurePreventsExecutionOfRequestedAction",
+    "RequestOutOfRange",
+    "SecurityAccessDenied",
+    "InvalidKey",
+    "ExeedNumberOfAttempts",
+    "RequiredTimeDelayNotExpired",
+    "UploadDownloadNotAccepted",
+    "TransferDataSuspended",
+    "GeneralProgrammingFailure",
+    "WrongBlockSequenceCounter",
+    "RequestCorrectlyReceivedResponsePending",
+    "SubFunctionNotSupportedInActiveSession",
+    "ServiceNotSupportedInActiveSession",
+]

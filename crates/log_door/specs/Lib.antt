@@ -1,2 +1,0 @@
--- What the door's contract cites besides `rules`.
-pub mod Lined
