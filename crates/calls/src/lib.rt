@@ -141,7 +141,9 @@ pub fn run(
     events: &[u8],
     replies: &[u8],
 ) -> Answered
-    ensures { λ r. ⌜ Called (ask .strict) (settingOf ask session) (callOf (ask .call) (now (address .entry)) (now (size .entry)) (now («data» .entry))) (lentOf (ask .channel) (now (request .entry)) (now (events .entry)) (now (replies .entry))) r (now (request .exit)) ⌝ }
+    ensures { λ r. ⌜ Called (ask .strict) (settingOf ask session)
+        (callOf (ask .call) (now (address .entry)) (now (size .entry)) (now («data» .entry)))
+        (lentOf (ask .channel) (now (request .entry)) (now (events .entry)) (now (replies .entry))) r (now (request .exit)) ⌝ }
 {
     let call = ask.call;
     let quiet = ask.quiet;
@@ -197,7 +199,9 @@ pub fn run_alfid(
     events: &[u8],
     replies: &[u8],
 ) -> Answered
-    ensures { λ r. ⌜ Called (ask .strict) (settingOf ask session) (callFrom (ask .call) (alfid address «address_width» wide) (alfid size «size_width» wide) (now («data» .entry))) (lentOf (ask .channel) (now (request .entry)) (now (events .entry)) (now (replies .entry))) r (now (request .exit)) ⌝ }
+    ensures { λ r. ⌜ Called (ask .strict) (settingOf ask session)
+        (callFrom (ask .call) (alfid address «address_width» wide) (alfid size «size_width» wide) (now («data» .entry)))
+        (lentOf (ask .channel) (now (request .entry)) (now (events .entry)) (now (replies .entry))) r (now (request .exit)) ⌝ }
 {
     let call = ask.call;
     let row = row_of(call);

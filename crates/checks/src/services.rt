@@ -144,7 +144,10 @@ fn write_memory_by_address(strict: bool, address: &[u8], size: &[u8], reply: &[u
 
 // "7 and 8 need two bytes after the SID, else (3, none)" .. "7 and 8 deviation 5"
 fn identified(strict: bool, minimum: usize, maximum: Maximum, id: u16, reply: &[u8]) -> Verdict
-    ensures { λ r. ⌜ verdictOf r ≡ firstOf (bounds strict minimum (maximumOf maximum) (now (reply .entry)) ∷ atLeast strict 3 (now (reply .entry)) ∷ strictly strict (eqb (u16At (now (reply .entry)) 1) id) 5 ∷ []) ⌝ }
+    ensures { λ r. ⌜ verdictOf r ≡ firstOf
+        (bounds strict minimum (maximumOf maximum) (now (reply .entry)) ∷
+        atLeast strict 3 (now (reply .entry)) ∷
+        strictly strict (eqb (u16At (now (reply .entry)) 1) id) 5 ∷ []) ⌝ }
 {
     let repeats = u16_at(reply, 1) == id;
     let echo = echoed(
@@ -199,7 +202,10 @@ fn routine_control(strict: bool, id: u16, reply: &[u8]) -> Verdict
 
 // "13 one, else (2, none)" .. "13 deviation 7"
 fn transfer_data(strict: bool, minimum: usize, counter: u8, reply: &[u8]) -> Verdict
-    ensures { λ r. ⌜ verdictOf r ≡ firstOf (bounds strict minimum none (now (reply .entry)) ∷ atLeast strict 2 (now (reply .entry)) ∷ strictly strict (eqb (getD (now (reply .entry)) 1 0) counter) 7 ∷ []) ⌝ }
+    ensures { λ r. ⌜ verdictOf r ≡ firstOf
+        (bounds strict minimum none (now (reply .entry)) ∷
+        atLeast strict 2 (now (reply .entry)) ∷
+        strictly strict (eqb (getD (now (reply .entry)) 1 0) counter) 7 ∷ []) ⌝ }
 {
     let repeats = byte_at(reply, 1) == counter;
     let echo = echoed(

@@ -14,7 +14,13 @@ use Rattle.rules.specs.Exchange as exchange
 use Rattle.exchange.specs.declared.error.Maximum.{Maximum}
 use Rattle.exchange.specs.declared.error.Maximum.the-variants as maximum
 use Rattle.exchange.specs.declared.error.ProtocolDeviation.{ProtocolDeviation}
-use Rattle.exchange.specs.declared.error.ProtocolDeviation.the-variants.{InvalidServiceId, InvalidRequestServiceId, InvalidSubFunction, UnexpectedPositiveResponse, InvalidDataIdentifier, InvalidRoutineIdentifier, InvalidBlockSequenceCounter, InvalidResponseLength, InvalidLengthFormat, InvalidLengthFormatIdentifier, InvalidMaxNumberOfBlockLength, InvalidAddressAndLengthFormatIdentifier, InvalidMemoryAddress, InvalidMemorySize, InvalidMemoryRecordLength}
+use Rattle.exchange.specs.declared.error.ProtocolDeviation.the-variants.{InvalidServiceId, InvalidRequestServiceId, InvalidSubFunction}
+use Rattle.exchange.specs.declared.error.ProtocolDeviation.the-variants.{UnexpectedPositiveResponse, InvalidDataIdentifier}
+use Rattle.exchange.specs.declared.error.ProtocolDeviation.the-variants.{InvalidRoutineIdentifier, InvalidBlockSequenceCounter}
+use Rattle.exchange.specs.declared.error.ProtocolDeviation.the-variants.{InvalidResponseLength, InvalidLengthFormat}
+use Rattle.exchange.specs.declared.error.ProtocolDeviation.the-variants.{InvalidLengthFormatIdentifier, InvalidMaxNumberOfBlockLength}
+use Rattle.exchange.specs.declared.error.ProtocolDeviation.the-variants.{InvalidAddressAndLengthFormatIdentifier, InvalidMemoryAddress}
+use Rattle.exchange.specs.declared.error.ProtocolDeviation.the-variants.{InvalidMemorySize, InvalidMemoryRecordLength}
 use Rattle.exchange.specs.declared.error.Fault.{Fault}
 use Rattle.exchange.specs.declared.error.Fault.the-variants as wrong
 use Rattle.exchange.specs.declared.types.Place.{Place}

@@ -39,7 +39,9 @@ pub extern "C" fn bintrochis_door_call(
     replies: &[u8],
     answer: &mut [u64; 15],
 ) -> u8
-    ensures { λ r. ⌜ InBytes (fields call flags value sub «address_length» «size_length» p2 «p2_star» overall addressed listens) limit (now (arguments .entry)) (now (request .entry)) (now (events .entry)) (now (replies .entry)) (now (answer .entry)) r (now (request .exit)) (now (answer .exit)) ⌝ }
+    ensures { λ r. ⌜ InBytes (fields call flags value sub «address_length» «size_length» p2 «p2_star» overall addressed listens) limit
+        (now (arguments .entry)) (now (request .entry)) (now (events .entry)) (now (replies .entry)) (now (answer .entry)) r
+        (now (request .exit)) (now (answer .exit)) ⌝ }
 {
     let h = fields(
         call,
@@ -96,7 +98,9 @@ pub extern "C" fn bintrochis_door_call_alfid(
     replies: &[u8],
     answer: &mut [u64; 15],
 ) -> u8
-    ensures { λ r. ⌜ InNumbers (fields call flags value 0 0 0 p2 «p2_star» overall addressed listens) limit address size «address_width» «size_width» wide (now («data» .entry)) (now (request .entry)) (now (events .entry)) (now (replies .entry)) (now (answer .entry)) r (now (request .exit)) (now (answer .exit)) ⌝ }
+    ensures { λ r. ⌜ InNumbers (fields call flags value 0 0 0 p2 «p2_star» overall addressed listens) limit address size «address_width»
+        «size_width» wide (now («data» .entry)) (now (request .entry)) (now (events .entry)) (now (replies .entry))
+        (now (answer .entry)) r (now (request .exit)) (now (answer .exit)) ⌝ }
 {
     let h = fields(
         call,

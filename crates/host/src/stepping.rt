@@ -36,7 +36,8 @@ pub extern "C" fn bintrochis_door_begin(
     request: &mut [u8],
     state: &mut [u64; 28],
 ) -> u8
-    ensures { λ r. ⌜ BegunInBytes (fields call flags value sub «address_length» «size_length» p2 «p2_star» overall true listens) limit (now (arguments .entry)) (now (request .entry)) (now (state .entry)) r (now (request .exit)) (now (state .exit)) ⌝ }
+    ensures { λ r. ⌜ BegunInBytes (fields call flags value sub «address_length» «size_length» p2 «p2_star» overall true listens) limit
+        (now (arguments .entry)) (now (request .entry)) (now (state .entry)) r (now (request .exit)) (now (state .exit)) ⌝ }
 {
     let h = fields(
         call,
@@ -102,7 +103,9 @@ pub extern "C" fn bintrochis_door_begin_alfid(
     request: &mut [u8],
     state: &mut [u64; 28],
 ) -> u8
-    ensures { λ r. ⌜ BegunInNumbers (fields call flags value 0 0 0 p2 «p2_star» overall true listens) limit address size «address_width» «size_width» wide (now («data» .entry)) (now (request .entry)) (now (state .entry)) r (now (request .exit)) (now (state .exit)) ⌝ }
+    ensures { λ r. ⌜ BegunInNumbers (fields call flags value 0 0 0 p2 «p2_star» overall true listens) limit address size «address_width»
+        «size_width» wide (now («data» .entry)) (now (request .entry)) (now (state .entry)) r (now (request .exit))
+        (now (state .exit)) ⌝ }
 {
     let h = fields(
         call,

@@ -199,7 +199,9 @@ fn note_given(
     out: &mut [u8],
 ) -> Tally
     requires { ⌜ t .size ≤ length (now out) ⌝ }
-    ensures { λ r. ⌜ Tallied (noteGiven (length (now (out .entry))) (startOf (t .start)) line time (givenOf asked (now (question .entry))) (givenOf answered (now (response .entry))) (tallyOf t (now (out .entry)))) (now (out .entry)) r (now (out .exit)) ⌝ }
+    ensures { λ r. ⌜ Tallied
+        (noteGiven (length (now (out .entry))) (startOf (t .start)) line time (givenOf asked (now (question .entry)))
+        (givenOf answered (now (response .entry))) (tallyOf t (now (out .entry)))) (now (out .entry)) r (now (out .exit)) ⌝ }
 {
     let start = t.start;
     match start {
@@ -276,7 +278,10 @@ fn framed(
     answered: &mut [u8; 4095],
     out: &mut [u8],
 ) -> Import
-    ensures { λ r. ⌜ (keptOf r (now (asked .exit)) (now (answered .exit)) (now (out .exit)) ≡ framed (length (now (out .entry))) ask answer (keptOf i (now (asked .entry)) (now (answered .entry)) (now (out .entry))) time id (now (frame .entry))) × (r .«refused» ≡ 0) ⌝ }
+    ensures { λ r. ⌜
+        (keptOf r (now (asked .exit)) (now (answered .exit)) (now (out .exit)) ≡ framed (length (now (out .entry))) ask answer
+        (keptOf i (now (asked .entry)) (now (answered .entry)) (now (out .entry))) time id (now (frame .entry))) ×
+        (r .«refused» ≡ 0) ⌝ }
 {
     let line = next(i.line);
     let tally = i.tally;
@@ -310,7 +315,9 @@ fn step(
     answered: &mut [u8; 4095],
     out: &mut [u8],
 ) -> Import
-    ensures { λ r. ⌜ goingOf r (now (asked .exit)) (now (answered .exit)) (now (out .exit)) ≡ step (length (now (out .entry))) ask answer (goingOf i (now (asked .entry)) (now (answered .entry)) (now (out .entry))) (lineOf found (now (frame .entry))) ⌝ }
+    ensures { λ r. ⌜ goingOf r (now (asked .exit)) (now (answered .exit)) (now (out .exit)) ≡ step (length (now (out .entry))) ask
+        answer (goingOf i (now (asked .entry)) (now (answered .entry)) (now (out .entry)))
+        (lineOf found (now (frame .entry))) ⌝ }
 {
     if i.refused != 0 {
         return i;
@@ -379,7 +386,8 @@ fn line_ends(
     answered: &mut [u8; 4095],
     out: &mut [u8],
 ) -> Import
-    ensures { λ r. ⌜ goingOf r (now (asked .exit)) (now (answered .exit)) (now (out .exit)) ≡ step (length (now (out .entry))) ask answer (goingOf (s .import) (now (asked .entry)) (now (answered .entry)) (now (out .entry))) (readLine (s .reader)) ⌝ }
+    ensures { λ r. ⌜ goingOf r (now (asked .exit)) (now (answered .exit)) (now (out .exit)) ≡ step (length (now (out .entry))) ask
+        answer (goingOf (s .import) (now (asked .entry)) (now (answered .entry)) (now (out .entry))) (readLine (s .reader)) ⌝ }
 {
     let reader = s.reader;
     let bytes = reader.bytes;
@@ -405,7 +413,8 @@ fn byte(
     answered: &mut [u8; 4095],
     out: &mut [u8],
 ) -> Stream
-    ensures { λ r. ⌜ streamOf r (now (asked .exit)) (now (answered .exit)) (now (out .exit)) ≡ byte (length (now (out .entry))) ask answer (streamOf s (now (asked .entry)) (now (answered .entry)) (now (out .entry))) c ⌝ }
+    ensures { λ r. ⌜ streamOf r (now (asked .exit)) (now (answered .exit)) (now (out .exit)) ≡ byte (length (now (out .entry))) ask
+        answer (streamOf s (now (asked .entry)) (now (answered .entry)) (now (out .entry))) c ⌝ }
 {
     if c == b'\n' {
         let import = line_ends(s, ask, answer, asked, answered, out);
@@ -432,7 +441,8 @@ pub fn read_on(
     answered: &mut [u8; 4095],
     out: &mut [u8],
 ) -> Stream
-    ensures { λ r. ⌜ streamOf r (now (asked .exit)) (now (answered .exit)) (now (out .exit)) ≡ bytes (length (now (out .entry))) ask answer (streamOf s (now (asked .entry)) (now (answered .entry)) (now (out .entry))) (now (chunk .entry)) ⌝ }
+    ensures { λ r. ⌜ streamOf r (now (asked .exit)) (now (answered .exit)) (now (out .exit)) ≡ bytes (length (now (out .entry))) ask
+        answer (streamOf s (now (asked .entry)) (now (answered .entry)) (now (out .entry))) (now (chunk .entry)) ⌝ }
 {
     let mut r = s;
     let mut i = 0;

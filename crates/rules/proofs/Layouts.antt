@@ -14,7 +14,9 @@ use borrow.Author.Tests.{leb-true, leb-false, le-leb, lt-ltb, eqb-true, eqb-fals
 use Rattle.rules.specs.Answers.{Part, part, negative}
 use Rattle.rules.specs.Blocks.{block, counter, carried}
 use Rattle.rules.specs.Bytes.{value, bytesOf, two, every, isByte}
-use Rattle.rules.specs.Calls.{Call, request, session, reset, security, testerPresent, readMemory, writeMemory, readIdentifier, writeIdentifier, faultCount, routine, download, upload, transfer, transferExit, faultList, orNone, byte, withBit7, suppresses, Field, given, alfid, sent, memory, positiveSid, sidOf, requestOf}
+use Rattle.rules.specs.Calls.{Call, request, session, reset, security, testerPresent, readMemory, writeMemory, readIdentifier, writeIdentifier}
+use Rattle.rules.specs.Calls.{faultCount, routine, download, upload, transfer, transferExit, faultList, orNone, byte, withBit7, suppresses}
+use Rattle.rules.specs.Calls.{Field, given, alfid, sent, memory, positiveSid, sidOf, requestOf}
 use Rattle.rules.specs.Client.{Result, call}
 use Rattle.rules.specs.Conversations.{Waiting, notice, Closing, byNegative}
 use Rattle.rules.specs.Demand3.{Refused}

@@ -1,4 +1,6 @@
--- Demand 3: a strict call of the fifteen named services that is not refused, with no overall timeout, "answers positive, negative or suppressed exactly when the events begin with a conversation that document 01 allows a rule-abiding controller for that request. Its answer, data and finishing time are those of that one conversation." "Demand 3 with a limit speaks of conversations of at most K notices": `patient` of `Closed`.
+-- Demand 3: a strict call of the fifteen named services that is not refused, with no overall timeout, "answers positive, negative or suppressed exactly
+-- when the events begin with a conversation that document 01 allows a rule-abiding controller for that request. Its answer, data and finishing time are
+-- those of that one conversation." "Demand 3 with a limit speaks of conversations of at most K notices": `patient` of `Closed`.
 use mathlib.Core.Bool.{true}
 use mathlib.Core.Path.{_≡_}
 use mathlib.Core.Logic.{_≢_, _↔_}

@@ -33,7 +33,12 @@ pub fn call<'r>(
     events: &[u8],
     replies: &'r [u8],
 ) -> Handed<'r>
-    ensures { λ r. ⌜ (Called (ask .strict) (settingOf ask (now (session .entry))) (callOf (ask .call) (now (address .entry)) (now (size .entry)) (now («data» .entry))) (lentOf (ask .channel) (now (request .entry)) (now (events .entry)) (now (replies .entry))) (r .answer) (now (request .exit))) × (now (r .bytes) ≡ handedOf (r .answer) (now (replies .entry))) × (now (session .exit) ≡ r .answer .timing) ⌝ }
+    ensures { λ r. ⌜
+        (Called (ask .strict) (settingOf ask (now (session .entry)))
+        (callOf (ask .call) (now (address .entry)) (now (size .entry)) (now («data» .entry)))
+        (lentOf (ask .channel) (now (request .entry)) (now (events .entry)) (now (replies .entry))) (r .answer)
+        (now (request .exit))) × (now (r .bytes) ≡ handedOf (r .answer) (now (replies .entry))) ×
+        (now (session .exit) ≡ r .answer .timing) ⌝ }
 {
     let a = calls::run(*session, ask, request, address, size, data, events, replies);
     let d = handed_out(a, replies);
@@ -56,7 +61,10 @@ pub fn in_session(
     events: &[u8],
     replies: &[u8],
 ) -> Answered
-    ensures { λ answered. ⌜ Called (ask .strict) (settingOf ask session) (callOf (ask .call) (now (address .entry)) (now (size .entry)) (now («data» .entry))) (lentOf (ask .channel) (now (request .entry)) (now (events .entry)) (now (replies .entry))) answered (now (request .exit)) ⌝ }
+    ensures { λ answered. ⌜ Called (ask .strict) (settingOf ask session)
+        (callOf (ask .call) (now (address .entry)) (now (size .entry)) (now («data» .entry)))
+        (lentOf (ask .channel) (now (request .entry)) (now (events .entry)) (now (replies .entry))) answered
+        (now (request .exit)) ⌝ }
 {
     let handed = call(
         &mut session,
@@ -82,7 +90,10 @@ pub fn data_in_session<'r>(
     events: &[u8],
     replies: &'r [u8],
 ) -> &'r [u8]
-    ensures { λ bytes. ⌜ HandsOut (ask .strict) (settingOf ask session) (callOf (ask .call) (now (address .entry)) (now (size .entry)) (now («data» .entry))) (lentOf (ask .channel) (now (request .entry)) (now (events .entry)) (now (replies .entry))) (now bytes) (now (request .exit)) ⌝ }
+    ensures { λ bytes. ⌜ HandsOut (ask .strict) (settingOf ask session)
+        (callOf (ask .call) (now (address .entry)) (now (size .entry)) (now («data» .entry)))
+        (lentOf (ask .channel) (now (request .entry)) (now (events .entry)) (now (replies .entry))) (now bytes)
+        (now (request .exit)) ⌝ }
 {
     let handed = call(
         &mut session,

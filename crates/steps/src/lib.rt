@@ -302,7 +302,9 @@ pub fn begin_alfid(
     wide: bool,
     data: &[u8],
 ) -> Engine
-    ensures { λ r. ⌜ Begins session ask (callFrom (ask .call) (alfid address «address_width» wide) (alfid size «size_width» wide) (now («data» .entry))) (now (request .entry)) r (now (request .exit)) ⌝ }
+    ensures { λ r. ⌜ Begins session ask
+        (callFrom (ask .call) (alfid address «address_width» wide) (alfid size «size_width» wide) (now («data» .entry)))
+        (now (request .entry)) r (now (request .exit)) ⌝ }
 {
     let unheard = calls::run_alfid(
         session,

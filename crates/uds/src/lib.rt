@@ -87,7 +87,8 @@ impl UDSClient {
         events: &[u8],
         replies: &[u8],
     ) -> Answered
-        ensures { λ r. ⌜ Asks self quiet (callOf call (now (address .entry)) (now (size .entry)) (now («data» .entry))) (now (request .entry)) (now (events .entry)) (now (replies .entry)) r (now (request .exit)) ⌝ }
+        ensures { λ r. ⌜ Asks self quiet (callOf call (now (address .entry)) (now (size .entry)) (now («data» .entry)))
+            (now (request .entry)) (now (events .entry)) (now (replies .entry)) r (now (request .exit)) ⌝ }
     {
         let session = self.session;
         run(
@@ -128,7 +129,10 @@ impl UDSClient {
         events: &[u8],
         replies: &[u8],
     ) -> Answered
-        ensures { λ r. ⌜ Asks self Bool.false (callFrom call (alfid address «address_width» (self .config .wide)) (alfid size «size_width» (self .config .wide)) (now («data» .entry))) (now (request .entry)) (now (events .entry)) (now (replies .entry)) r (now (request .exit)) ⌝ }
+        ensures { λ r. ⌜ Asks self Bool.false
+            (callFrom call (alfid address «address_width» (self .config .wide)) (alfid size «size_width» (self .config .wide))
+            (now («data» .entry))) (now (request .entry)) (now (events .entry)) (now (replies .entry)) r
+            (now (request .exit)) ⌝ }
     {
         let session = self.session;
         let config = self.config;
@@ -159,7 +163,8 @@ impl UDSClient {
         events: &[u8],
         replies: &[u8],
     ) -> Answered
-        ensures { λ r. ⌜ Asks self Bool.false (rules.request sid (subOf «sub_function») (dataOf given (now («data» .entry)))) (now (request .entry)) (now (events .entry)) (now (replies .entry)) r (now (request .exit)) ⌝ }
+        ensures { λ r. ⌜ Asks self Bool.false (rules.request sid (subOf «sub_function») (dataOf given (now («data» .entry))))
+            (now (request .entry)) (now (events .entry)) (now (replies .entry)) r (now (request .exit)) ⌝ }
     {
         self.call(
             false,
@@ -224,7 +229,8 @@ impl UDSClient {
         events: &[u8],
         replies: &[u8],
     ) -> Answered
-        ensures { λ r. ⌜ Asks self Bool.false (security «access_type» (dataOf given (now («data» .entry)))) (now (request .entry)) (now (events .entry)) (now (replies .entry)) r (now (request .exit)) ⌝ }
+        ensures { λ r. ⌜ Asks self Bool.false (security «access_type» (dataOf given (now («data» .entry)))) (now (request .entry))
+            (now (events .entry)) (now (replies .entry)) r (now (request .exit)) ⌝ }
     {
         self.call(
             false,
@@ -275,7 +281,9 @@ impl UDSClient {
         events: &[u8],
         replies: &[u8],
     ) -> Answered
-        ensures { λ r. ⌜ Asks self Bool.false (readMemory (rules.given (now («memory_address» .entry))) (rules.given (now («memory_size» .entry)))) (now (request .entry)) (now (events .entry)) (now (replies .entry)) r (now (request .exit)) ⌝ }
+        ensures { λ r. ⌜ Asks self Bool.false
+            (readMemory (rules.given (now («memory_address» .entry))) (rules.given (now («memory_size» .entry))))
+            (now (request .entry)) (now (events .entry)) (now (replies .entry)) r (now (request .exit)) ⌝ }
     {
         self.call_memory(
             false,
@@ -300,7 +308,10 @@ impl UDSClient {
         events: &[u8],
         replies: &[u8],
     ) -> Answered
-        ensures { λ r. ⌜ Asks self Bool.false (readMemory (alfid «memory_address» «address_width» (self .config .wide)) (alfid «memory_size» «size_width» (self .config .wide))) (now (request .entry)) (now (events .entry)) (now (replies .entry)) r (now (request .exit)) ⌝ }
+        ensures { λ r. ⌜ Asks self Bool.false
+            (readMemory (alfid «memory_address» «address_width» (self .config .wide))
+            (alfid «memory_size» «size_width» (self .config .wide))) (now (request .entry)) (now (events .entry))
+            (now (replies .entry)) r (now (request .exit)) ⌝ }
     {
         self.call_alfid(
             Call::ReadMemoryByAddress,
@@ -325,7 +336,8 @@ impl UDSClient {
         events: &[u8],
         replies: &[u8],
     ) -> Answered
-        ensures { λ r. ⌜ Asks self Bool.false (writeIdentifier «data_identifier» (now («data_record» .entry))) (now (request .entry)) (now (events .entry)) (now (replies .entry)) r (now (request .exit)) ⌝ }
+        ensures { λ r. ⌜ Asks self Bool.false (writeIdentifier «data_identifier» (now («data_record» .entry))) (now (request .entry))
+            (now (events .entry)) (now (replies .entry)) r (now (request .exit)) ⌝ }
     {
         self.call(
             false,
@@ -348,7 +360,10 @@ impl UDSClient {
         events: &[u8],
         replies: &[u8],
     ) -> Answered
-        ensures { λ r. ⌜ Asks self Bool.false (writeMemory (rules.given (now («memory_address» .entry))) (rules.given (now («memory_size» .entry))) (now («data» .entry))) (now (request .entry)) (now (events .entry)) (now (replies .entry)) r (now (request .exit)) ⌝ }
+        ensures { λ r. ⌜ Asks self Bool.false
+            (writeMemory (rules.given (now («memory_address» .entry))) (rules.given (now («memory_size» .entry)))
+            (now («data» .entry))) (now (request .entry)) (now (events .entry)) (now (replies .entry)) r
+            (now (request .exit)) ⌝ }
     {
         self.call_memory(
             false,
@@ -374,7 +389,10 @@ impl UDSClient {
         events: &[u8],
         replies: &[u8],
     ) -> Answered
-        ensures { λ r. ⌜ Asks self Bool.false (writeMemory (alfid «memory_address» «address_width» (self .config .wide)) (alfid «memory_size» «size_width» (self .config .wide)) (now («data» .entry))) (now (request .entry)) (now (events .entry)) (now (replies .entry)) r (now (request .exit)) ⌝ }
+        ensures { λ r. ⌜ Asks self Bool.false
+            (writeMemory (alfid «memory_address» «address_width» (self .config .wide))
+            (alfid «memory_size» «size_width» (self .config .wide)) (now («data» .entry))) (now (request .entry))
+            (now (events .entry)) (now (replies .entry)) r (now (request .exit)) ⌝ }
     {
         self.call_alfid(
             Call::WriteMemoryByAddress,
@@ -443,7 +461,8 @@ impl UDSClient {
         events: &[u8],
         replies: &[u8],
     ) -> Answered
-        ensures { λ r. ⌜ Asks self Bool.false (routine «routine_control_type» «routine_identifier» (dataOf given (now («data» .entry)))) (now (request .entry)) (now (events .entry)) (now (replies .entry)) r (now (request .exit)) ⌝ }
+        ensures { λ r. ⌜ Asks self Bool.false (routine «routine_control_type» «routine_identifier» (dataOf given (now («data» .entry))))
+            (now (request .entry)) (now (events .entry)) (now (replies .entry)) r (now (request .exit)) ⌝ }
     {
         self.call(
             false,
@@ -467,7 +486,10 @@ impl UDSClient {
         events: &[u8],
         replies: &[u8],
     ) -> Answered
-        ensures { λ r. ⌜ Asks self Bool.false (download «compression_method» «encryption_method» (rules.given (now («memory_address» .entry))) (rules.given (now («memory_size» .entry)))) (now (request .entry)) (now (events .entry)) (now (replies .entry)) r (now (request .exit)) ⌝ }
+        ensures { λ r. ⌜ Asks self Bool.false
+            (download «compression_method» «encryption_method» (rules.given (now («memory_address» .entry)))
+            (rules.given (now («memory_size» .entry)))) (now (request .entry)) (now (events .entry)) (now (replies .entry)) r
+            (now (request .exit)) ⌝ }
     {
         self.call_memory(
             false,
@@ -494,7 +516,10 @@ impl UDSClient {
         events: &[u8],
         replies: &[u8],
     ) -> Answered
-        ensures { λ r. ⌜ Asks self Bool.false (download «compression_method» «encryption_method» (alfid «memory_address» «address_width» (self .config .wide)) (alfid «memory_size» «size_width» (self .config .wide))) (now (request .entry)) (now (events .entry)) (now (replies .entry)) r (now (request .exit)) ⌝ }
+        ensures { λ r. ⌜ Asks self Bool.false
+            (download «compression_method» «encryption_method» (alfid «memory_address» «address_width» (self .config .wide))
+            (alfid «memory_size» «size_width» (self .config .wide))) (now (request .entry)) (now (events .entry))
+            (now (replies .entry)) r (now (request .exit)) ⌝ }
     {
         self.call_alfid(
             Call::RequestDownload(compression_method, encryption_method),
@@ -521,7 +546,10 @@ impl UDSClient {
         events: &[u8],
         replies: &[u8],
     ) -> Answered
-        ensures { λ r. ⌜ Asks self Bool.false (upload «compression_method» «encryption_method» (rules.given (now («memory_address» .entry))) (rules.given (now («memory_size» .entry)))) (now (request .entry)) (now (events .entry)) (now (replies .entry)) r (now (request .exit)) ⌝ }
+        ensures { λ r. ⌜ Asks self Bool.false
+            (upload «compression_method» «encryption_method» (rules.given (now («memory_address» .entry)))
+            (rules.given (now («memory_size» .entry)))) (now (request .entry)) (now (events .entry)) (now (replies .entry)) r
+            (now (request .exit)) ⌝ }
     {
         self.call_memory(
             false,
@@ -548,7 +576,10 @@ impl UDSClient {
         events: &[u8],
         replies: &[u8],
     ) -> Answered
-        ensures { λ r. ⌜ Asks self Bool.false (upload «compression_method» «encryption_method» (alfid «memory_address» «address_width» (self .config .wide)) (alfid «memory_size» «size_width» (self .config .wide))) (now (request .entry)) (now (events .entry)) (now (replies .entry)) r (now (request .exit)) ⌝ }
+        ensures { λ r. ⌜ Asks self Bool.false
+            (upload «compression_method» «encryption_method» (alfid «memory_address» «address_width» (self .config .wide))
+            (alfid «memory_size» «size_width» (self .config .wide))) (now (request .entry)) (now (events .entry))
+            (now (replies .entry)) r (now (request .exit)) ⌝ }
     {
         self.call_alfid(
             Call::RequestUpload(compression_method, encryption_method),
@@ -574,7 +605,8 @@ impl UDSClient {
         events: &[u8],
         replies: &[u8],
     ) -> Answered
-        ensures { λ r. ⌜ Asks self Bool.false (transfer «block_sequence_counter» (dataOf given (now («data» .entry)))) (now (request .entry)) (now (events .entry)) (now (replies .entry)) r (now (request .exit)) ⌝ }
+        ensures { λ r. ⌜ Asks self Bool.false (transfer «block_sequence_counter» (dataOf given (now («data» .entry))))
+            (now (request .entry)) (now (events .entry)) (now (replies .entry)) r (now (request .exit)) ⌝ }
     {
         self.call(
             false,

@@ -28,7 +28,8 @@ impl SuppressedUDSClient {
         events: &[u8],
         replies: &[u8],
     ) -> Answered
-        ensures { λ r. ⌜ Asks (self .client) Bool.true (rules.request sid (subOf «sub_function») (dataOf given (now («data» .entry)))) (now (request .entry)) (now (events .entry)) (now (replies .entry)) r (now (request .exit)) ⌝ }
+        ensures { λ r. ⌜ Asks (self .client) Bool.true (rules.request sid (subOf «sub_function») (dataOf given (now («data» .entry))))
+            (now (request .entry)) (now (events .entry)) (now (replies .entry)) r (now (request .exit)) ⌝ }
     {
         let client = self.client;
         client.call(
@@ -93,7 +94,8 @@ impl SuppressedUDSClient {
         events: &[u8],
         replies: &[u8],
     ) -> Answered
-        ensures { λ r. ⌜ Asks (self .client) Bool.true (security «access_type» (dataOf given (now («data» .entry)))) (now (request .entry)) (now (events .entry)) (now (replies .entry)) r (now (request .exit)) ⌝ }
+        ensures { λ r. ⌜ Asks (self .client) Bool.true (security «access_type» (dataOf given (now («data» .entry))))
+            (now (request .entry)) (now (events .entry)) (now (replies .entry)) r (now (request .exit)) ⌝ }
     {
         let client = self.client;
         client.call(
@@ -167,7 +169,9 @@ impl SuppressedUDSClient {
         events: &[u8],
         replies: &[u8],
     ) -> Answered
-        ensures { λ r. ⌜ Asks (self .client) Bool.true (routine «routine_control_type» «routine_identifier» (dataOf given (now («data» .entry)))) (now (request .entry)) (now (events .entry)) (now (replies .entry)) r (now (request .exit)) ⌝ }
+        ensures { λ r. ⌜ Asks (self .client) Bool.true
+            (routine «routine_control_type» «routine_identifier» (dataOf given (now («data» .entry)))) (now (request .entry))
+            (now (events .entry)) (now (replies .entry)) r (now (request .exit)) ⌝ }
     {
         let client = self.client;
         client.call(
