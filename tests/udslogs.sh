@@ -85,7 +85,7 @@ try "udslogs: --help" 0 "usage: udslogs [FILE].." "" help --help
 try "udslogs: -h" 0 "usage: udslogs [FILE].." "" help -h
 try "udslogs: an unknown option" 2 "" "no option --colour*usage: udslogs" ./udslogs "$room/one.logs" --colour
 copied() { cp udslogs "$room/" && "$room/udslogs" "$room/one.logs"; }
-tidy() { mkdir "$room/tmp-3" && TMPDIR=$room/tmp-3 ./udslogs "$room/one.logs" && ls -A "$room/tmp-3"; }
+tidy() { mkdir "$room/tmp-udslogs" && TMPDIR=$room/tmp-udslogs ./udslogs "$room/one.logs" && ls -A "$room/tmp-udslogs"; }
 try "udslogs: a copy builds nothing elsewhere" 1 "" "no program to build" copied
 try "udslogs: no temporary file stays" 0 "$line" "" tidy
 memory() { # what it holds hangs on no input: 60 MB of logs in 4 MB of memory
