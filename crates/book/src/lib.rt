@@ -1,4 +1,7 @@
 // Request Thirteen, "A book of logs with a summary": a book in lent bytes, and its summary in lent counters. What they are, is said in `bookkeeping`.
+use book_counters::Counted;
+use book_counters::counted_at;
+use book_counters::raise;
 use exchange::types::Place;
 use layout::MOST;
 use layout::call_in;
@@ -6,9 +9,6 @@ use layout::is_book;
 use layout::log_count;
 use layout::log_size;
 use layout::start;
-use summary::Counted;
-use summary::counted_at;
-use summary::raise;
 use wire::part;
 use writer::insert;
 use writer::put_header;

@@ -22,7 +22,7 @@ unfolding books noBooks one quiet three log log2 isBook layoutOk entriesFrom
 tested = (refl, refl)
 
 answers : Answers
-unfolding one quiet three log log2 isBook add find layoutOk entriesFrom
+unfolding one quiet three log log2 isBook add find summary layoutOk entriesFrom
 answers = refl
 
 slots : Slots

@@ -59,11 +59,11 @@ abbrev pub Answers : Type 0
 Answers =
     add empty log ∷ add [] log ∷ add one [] ∷ add [] [] ∷
     find one 7 0 ∷ find one 7 1 ∷ find one 6 0 ∷ find [] 7 0 ∷
-    find three 7 0 ∷ find three 7 1 ∷ find three 4 0 ∷ find three 7 2 ∷ find three 263 0 ∷ []
+    find three 7 0 ∷ find three 7 1 ∷ find three 4 0 ∷ find three 7 2 ∷ find three 263 0 ∷ summary [] ∷ []
     ≡
     gives one ∷ refused 25 ∷ refused 23 ∷ refused 25 ∷
     gives log ∷ refused 24 ∷ refused 24 ∷ refused 25 ∷
-    gives log ∷ gives log2 ∷ gives quiet ∷ refused 24 ∷ refused 24 ∷ []
+    gives log ∷ gives log2 ∷ gives quiet ∷ refused 24 ∷ refused 24 ∷ refused 25 ∷ []
 
 -- The class of every outcome, and its place in a row.
 abbrev pub outcomes : List answers.Outcome

@@ -1,11 +1,11 @@
 -- `slot_of` meets its contract.
 use native.Mathlib.Omega.{arith}
-use Rattle.book.proofs.Classes.{deviates}
+use Rattle.book_counters.proofs.Classes.{deviates}
 use Rattle.bookkeeping.specs.Summary.{slot}
 use mathlib.Core.Path.{refl, sym, _∙_, ap}
 use borrow.Author.Needs.{needs}
-use Rattle.book.proofs.summary.slot_of.Statement.{statement}
-use Rattle.book.proofs.summary.slot_of.Tie as tie
+use Rattle.book_counters.proofs.slot_of.Statement.{statement}
+use Rattle.book_counters.proofs.slot_of.Tie as tie
 
 enum-told : tie.Need-enum-told
 enum-told c = search needs

@@ -4,8 +4,8 @@ use lib.ListN.{getD}
 use lib.Seq.{set-out, set-getD}
 use borrow.Author.Tests.{lt-ltb, le-ltb}
 use borrow.Author.Needs.{needs}
-use Rattle.book.proofs.summary.raise.Statement.{statement}
-use Rattle.book.proofs.summary.raise.Tie as tie
+use Rattle.book_counters.proofs.raise.Statement.{statement}
+use Rattle.book_counters.proofs.raise.Tie as tie
 
 mul-count : tie.Need-mul-count
 mul-count c = search needs

@@ -1,5 +1,5 @@
 -- `counted_at` meets its contract.
-use Rattle.book.proofs.Classes.{same-class}
+use Rattle.book_counters.proofs.Classes.{same-class}
 use Rattle.log_line.specs.Answered.{AnsweredIn}
 use Rattle.bookkeeping.specs.Summary.{Class, classIn, slot}
 use Rattle.rules.specs.Logs.{headerOf, replyBytes}
@@ -7,8 +7,8 @@ use Rattle.rules.specs.Answers as rules
 use mathlib.Core.Path.{_≡_, subst, sym, _∙_, ap, ap₂}
 use Prim.Native.Nat.{ℕ, _+_, _*_}
 use borrow.Author.Needs.{needs}
-use Rattle.book.proofs.summary.counted_at.Statement.{statement}
-use Rattle.book.proofs.summary.counted_at.Tie as tie
+use Rattle.book_counters.proofs.counted_at.Statement.{statement}
+use Rattle.book_counters.proofs.counted_at.Tie as tie
 
 answer-of-requires : tie.Need-answer-of-requires
 answer-of-requires c κs = search needs
@@ -19,8 +19,8 @@ enum-told c = search needs
 enum-known-answer : tie.Need-enum-known-answer
 enum-known-answer c = search needs
 
-call-in-requires : tie.Need-call-in-requires
-call-in-requires c κs = search needs
+byte-at-requires : tie.Need-byte-at-requires
+byte-at-requires c κs = search needs
 
 cast-t7 : tie.Need-cast-t7
 cast-t7 c = search needs
@@ -43,7 +43,7 @@ returns-2 c =
     let a = subst (AnsweredIn l) (c .before .before .before .answer .given .1) (c .before .before .before .before .before .answer-of .ensures) in
     let o = (c .before .before .before .answer .given .0 .1 .0) .outcome in
     let class = same-class (replyBytes (headerOf l) l) o ∙ ap (λ (x : rules.Answer). classIn (x .outcome)) (a .2 .means) in
-    (a .0, ap₂ (λ (c s : ℕ). c * 261 + s) (c .before .call-in .ensures) ((c .slot-of .ensures .0) ∙ ap slot class))
+    (a .0, ap₂ (λ (c s : ℕ). c * 261 + s) (c .before .byte-at .ensures) ((c .slot-of .ensures .0) ∙ ap slot class))
 
 pub counted-at-spec : {M : Type 1} → statement M
 counted-at-spec =
@@ -52,7 +52,7 @@ counted-at-spec =
     answer-of-requires
     enum-told
     enum-known-answer
-    call-in-requires
+    byte-at-requires
     cast-t7
     mul-t8
     slot-of-requires

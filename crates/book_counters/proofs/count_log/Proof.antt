@@ -1,12 +1,12 @@
 -- `count_log` meets its contract.
-use Rattle.book.specs.Answered.{CountsAt}
+use Rattle.book_counters.specs.Counted.{CountsAt}
 use Rattle.bookkeeping.specs.Summary.{raisedAt}
 use mathlib.Core.Path.{_≡_, refl, sym, _∙_, ap, subst}
 use mathlib.Core.List.{List}
 use Prim.Native.Nat.{ℕ}
 use borrow.Author.Needs.{needs}
-use Rattle.book.proofs.summary.count_log.Statement.{statement}
-use Rattle.book.proofs.summary.count_log.Tie as tie
+use Rattle.book_counters.proofs.count_log.Statement.{statement}
+use Rattle.book_counters.proofs.count_log.Tie as tie
 
 counted-at-requires : tie.Need-counted-at-requires
 counted-at-requires c κs = search needs
