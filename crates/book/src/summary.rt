@@ -1,10 +1,10 @@
 // The summary of a book in lent counters: "for each call 0 to 15 a row of 261 counters u16". No counter of a book's summary gets to 65,535, since at
 // most 1,489 logs fit in a book: a header has 36 bytes, an entry 8.
-use crate::layout::is_book;
-use crate::layout::log_count;
-use crate::layout::log_size;
-use crate::layout::start;
 use book_counters::count_log;
+use book_layout::is_book;
+use book_layout::log_count;
+use book_layout::log_size;
+use book_layout::start;
 use wire::part;
 ghost use mathlib.Core.Path.{_≡_};
 ghost use mathlib.Core.List.{[]};

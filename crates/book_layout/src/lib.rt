@@ -1,4 +1,4 @@
-// A book as it is read: its header, its directory and its logs.
+// A book as it is read: its header, its directory and where its logs stand.
 use log_call::Recorded;
 use log_call::recorded_in;
 use logs::layout::all;
@@ -16,33 +16,31 @@ ghost use Rattle.bookkeeping.specs.Book.{isBook};
 ghost use Rattle.bookkeeping.specs.Fields.{headOk, entryOk};
 
 // "at most 64 KiB"
-pub(crate) const MOST: usize = 65536;
+pub const MOST: usize = 65536;
 
 // Where the logs of a book begin that has so many; and where the entry so numbered stands.
-pub(crate) fn start(count: usize) -> usize
-    requires { ⌜ count ≤ 65536 ⌝ }
+pub fn start(count: u16) -> usize
     ensures { λ r. ⌜ r ≡ bookkeeping.start count ⌝ }
 {
-    20 + count * 8
+    20 + count as usize * 8
 }
 
 // How many logs the header says.
-pub(crate) fn log_count(book: &[u8]) -> usize
+pub fn log_count(book: &[u8]) -> u16
     ensures { λ r. ⌜ (r ≡ u16At (now (book .entry)) 4) × (r ≤ 65535) ⌝ }
 {
-    u16_at(book, 4) as usize
+    u16_at(book, 4)
 }
 
 // How long the log numbered i is, as the directory says.
-pub(crate) fn log_size(book: &[u8], i: usize) -> usize
-    requires { ⌜ i ≤ 65535 ⌝ }
+pub fn log_size(book: &[u8], i: u16) -> usize
     ensures { λ r. ⌜ (r ≡ u16At (drop (bookkeeping.start i) (now (book .entry))) 2) × (r ≤ 65535) ⌝ }
 {
     u16_at(book, start(i) + 2) as usize
 }
 
 // The call that a log is of.
-pub(crate) fn call_in(log: &[u8]) -> u8
+pub fn call_in(log: &[u8]) -> u8
     ensures { λ r. ⌜ r ≡ bookkeeping.callByte (now (log .entry)) ⌝ }
 {
     byte_at(log, 2)
@@ -81,8 +79,7 @@ fn header_ok(book: &[u8]) -> bool
 }
 
 // The entry numbered i, whose log begins at index `at`.
-fn entry_ok(book: &[u8], i: usize, at: usize) -> bool
-    requires { ⌜ i ≤ 65535 ⌝ }
+fn entry_ok(book: &[u8], i: u16, at: usize) -> bool
     ensures { λ r. ⌜ r ≡ entryOk (drop (bookkeeping.start i) (now (book .entry))) at (drop at (now (book .entry))) ⌝ }
 {
     let entry = start(i);

@@ -1,13 +1,13 @@
 -- `log_size` meets its contract.
 use native.Mathlib.Omega.{arith}
-use Rattle.book.proofs.Walks.{pair-behind}
+use Rattle.book_layout.proofs.Walks.{pair-behind}
 use Rattle.bookkeeping.specs.Layout.{start}
 use Rattle.rules.specs.Bytes.{u16At}
 use mathlib.Core.Path.{_≡_, sym, _∙_, ap}
 use Prim.Native.Nat.{ℕ, _+_}
 use borrow.Author.Needs.{needs}
-use Rattle.book.proofs.layout.log_size.Statement.{statement}
-use Rattle.book.proofs.layout.log_size.Tie as tie
+use Rattle.book_layout.proofs.log_size.Statement.{statement}
+use Rattle.book_layout.proofs.log_size.Tie as tie
 
 start-requires : tie.Need-start-requires
 start-requires c κs = search needs

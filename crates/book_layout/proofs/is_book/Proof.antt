@@ -1,7 +1,7 @@
 -- `is_book` meets its contract: what is left to be tested is all that there was to test.
 use native.Mathlib.Omega.{arith}
 use borrow.Author.Needs.{needs}
-use Rattle.book.proofs.Walks.{leftOk, no-head, with-head, fails, goes-on, none-ok}
+use Rattle.book_layout.proofs.Walks.{leftOk, no-head, with-head, fails, goes-on, none-ok}
 use Rattle.bookkeeping.specs.Book.{isBook}
 use Rattle.bookkeeping.specs.Layout.{start}
 use Rattle.exchange.proofs.Entries.{are-bytes}
@@ -10,8 +10,8 @@ use borrow.Author.Tests.{not-true, not-false}
 use mathlib.Core.Path.{_≡_, sym, _∙_, ap, ap₂}
 use mathlib.Core.Bool.{true, false}
 use Prim.Native.Nat.{ℕ, _+_, _-_, _*_, _≤_}
-use Rattle.book.proofs.layout.is_book.Statement.{statement}
-use Rattle.book.proofs.layout.is_book.Tie as tie
+use Rattle.book_layout.proofs.is_book.Statement.{statement}
+use Rattle.book_layout.proofs.is_book.Tie as tie
 
 abbrev Inv-loop : tie.InvT-loop
 Inv-loop book count at₀ i₀ at i = (i ≤ count) × (at ≤ 524308 + i * 65535) × (leftOk book count i at ≡ isBook book)

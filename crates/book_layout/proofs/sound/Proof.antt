@@ -2,8 +2,8 @@
 use Rattle.log_call.specs.Asking.{RecordedIn}
 use mathlib.Core.Path.{subst, sym}
 use borrow.Author.Needs.{needs}
-use Rattle.book.proofs.layout.sound.Statement.{statement}
-use Rattle.book.proofs.layout.sound.Tie as tie
+use Rattle.book_layout.proofs.sound.Statement.{statement}
+use Rattle.book_layout.proofs.sound.Tie as tie
 
 recorded-in-requires : tie.Need-recorded-in-requires
 recorded-in-requires c κs = search needs

@@ -1,8 +1,8 @@
 -- `entry_ok` meets its contract.
-use Rattle.book.proofs.Walks.{entry-read}
+use Rattle.book_layout.proofs.Walks.{entry-read}
 use borrow.Author.Needs.{needs}
-use Rattle.book.proofs.layout.entry_ok.Statement.{statement}
-use Rattle.book.proofs.layout.entry_ok.Tie as tie
+use Rattle.book_layout.proofs.entry_ok.Statement.{statement}
+use Rattle.book_layout.proofs.entry_ok.Tie as tie
 
 start-requires : tie.Need-start-requires
 start-requires c κs = search needs

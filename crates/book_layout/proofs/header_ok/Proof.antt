@@ -1,7 +1,7 @@
 -- `header_ok` meets its contract.
 use borrow.Author.Needs.{needs}
-use Rattle.book.proofs.layout.header_ok.Statement.{statement}
-use Rattle.book.proofs.layout.header_ok.Tie as tie
+use Rattle.book_layout.proofs.header_ok.Statement.{statement}
+use Rattle.book_layout.proofs.header_ok.Tie as tie
 
 u32-at-requires : tie.Need-u32-at-requires
 u32-at-requires c κs = search needs
