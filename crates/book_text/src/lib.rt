@@ -114,7 +114,8 @@ fn put_counter(text: &mut [u8], at: usize, place: usize, number: u16) -> usize
 
 // "by call and then in this order"
 pub fn put_summary(text: &mut [u8], summary: &[u16]) -> usize
-    ensures { λ r. ⌜ Puts (leb 100224 (length (now (text .entry))) && leb (length (now (summary .entry))) 4176) (now (text .entry)) (linesFrom 0 (now (summary .entry))) (now (text .exit)) r ⌝ }
+    ensures { λ r. ⌜ Puts (leb 100224 (length (now (text .entry))) && leb (length (now (summary .entry))) 4176)
+        (now (text .entry)) (linesFrom 0 (now (summary .entry))) (now (text .exit)) r ⌝ }
 {
     if text.len() < LONGEST {
         return 0;
@@ -143,7 +144,8 @@ fn number_at(summary: &[u16], place: usize) -> u16
 
 // "added CALL K", and "the summary's line that this log raised, with its new number".
 pub fn put_added(text: &mut [u8], entry: Entry, summary: &[u16]) -> usize
-    ensures { λ r. ⌜ Puts (leb 200 (length (now (text .entry))) && leb (length (now (summary .entry))) 4176) (now (text .entry)) (addedText (entry .call) (entry .number) (entry .place) (now (summary .entry))) (now (text .exit)) r ⌝ }
+    ensures { λ r. ⌜ Puts (leb 200 (length (now (text .entry))) && leb (length (now (summary .entry))) 4176)
+        (now (text .entry)) (addedText (entry .call) (entry .number) (entry .place) (now (summary .entry))) (now (text .exit)) r ⌝ }
 {
     if text.len() < SHORT {
         return 0;

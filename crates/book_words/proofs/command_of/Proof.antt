@@ -36,7 +36,8 @@ same-requires-2 c κs = search needs
 returns-4 : tie.Need-returns-4
 returns-4 c =
     let x = c .before .before .before .before .before .before .before .before .before .args in
-    is-add (x .words) (x .word .now) (x .book) (x .call .now) (x .k .now) (not-false _ (c .before .before .before .before .if3 .left)) (c .before .before .before .if4 .taken) (c .before .same2 .ensures .0 (c .if5 .taken))
+    is-add (x .words) (x .word .now) (x .book) (x .call .now) (x .k .now)
+    (not-false _ (c .before .before .before .before .if3 .left)) (c .before .before .before .if4 .taken) (c .before .same2 .ensures .0 (c .if5 .taken))
 
 slice-aggregate-same-3 : tie.Need-slice-aggregate-same-3
 slice-aggregate-same-3 c = search needs
@@ -47,12 +48,14 @@ same-requires-3 c κs = search needs
 returns-5 : tie.Need-returns-5
 returns-5 c =
     let x = c .before .before .before .before .before .before .before .before .before .before .before .before .args in
-    is-summary (x .words) (x .word .now) (x .book) (x .call .now) (x .k .now) (not-false _ (c .before .before .before .before .before .before .before .if3 .left)) (c .before .before .before .before .before .before .if4 .taken) (c .before .same3 .ensures .0 (c .if6 .taken))
+    is-summary (x .words) (x .word .now) (x .book) (x .call .now) (x .k .now)
+    (not-false _ (c .before .before .before .before .before .before .before .if3 .left)) (c .before .before .before .before .before .before .if4 .taken) (c .before .same3 .ensures .0 (c .if6 .taken))
 
 returns-6 : tie.Need-returns-6
 returns-6 c =
     let x = c .before .before .before .before .before .before .before .before .before .before .before .before .args in
-    neither (x .words) (x .word .now) (x .book) (x .call .now) (x .k .now) (not-false _ (c .before .before .before .before .before .before .before .if3 .left)) (c .before .before .before .before .before .before .if4 .taken)
+    neither (x .words) (x .word .now) (x .book) (x .call .now) (x .k .now)
+    (not-false _ (c .before .before .before .before .before .before .before .if3 .left)) (c .before .before .before .before .before .before .if4 .taken)
     (unlike (c .before .before .before .if5 .left) (c .before .before .before .before .same2 .ensures .1))
     (unlike (c .if6 .left) (c .before .same3 .ensures .1))
 
@@ -68,18 +71,21 @@ find-of-requires c κs = search needs
 returns-7 : tie.Need-returns-7
 returns-7 c =
     let x = c .before .before .before .before .before .before .before .before .before .before .before .args in
-    c .find-of .ensures ∙ is-find (x .words) (x .word .now) (x .book) (x .call .now) (x .k .now) (not-false _ (c .before .before .before .before .before .before .if3 .left)) (c .before .before .before .before .if7 .taken)
+    c .find-of .ensures ∙ is-find (x .words) (x .word .now) (x .book) (x .call .now) (x .k .now)
+    (not-false _ (c .before .before .before .before .before .before .if3 .left)) (c .before .before .before .before .if7 .taken)
     (c .before .before .same4 .ensures .0 (c .before .if8 .taken))
 
 returns-8 : tie.Need-returns-8
 returns-8 c =
     let x = c .before .before .before .before .before .before .before .before .before .before .args in
-    not-find (x .words) (x .word .now) (x .book) (x .call .now) (x .k .now) (not-false _ (c .before .before .before .before .before .if3 .left)) (c .before .before .before .if7 .taken) (unlike (c .if8 .left) (c .before .same4 .ensures .1))
+    not-find (x .words) (x .word .now) (x .book) (x .call .now) (x .k .now)
+    (not-false _ (c .before .before .before .before .before .if3 .left)) (c .before .before .before .if7 .taken) (unlike (c .if8 .left) (c .before .same4 .ensures .1))
 
 returns-9 : tie.Need-returns-9
 returns-9 c =
     let x = c .before .before .before .before .before .before .before .args in
-    other (x .words) (x .word .now) (x .book) (x .call .now) (x .k .now) (not-false _ (c .before .before .if3 .left)) (c .before .before .before .if1 .left) (c .before .if4 .left) (c .if7 .left)
+    other (x .words) (x .word .now) (x .book) (x .call .now) (x .k .now)
+    (not-false _ (c .before .before .if3 .left)) (c .before .before .before .if1 .left) (c .before .if4 .left) (c .if7 .left)
 
 pub command-of-spec : {M : Type 1} → statement M
 command-of-spec =

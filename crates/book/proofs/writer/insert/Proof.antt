@@ -103,7 +103,9 @@ put-offsets-requires c κs =
     )
 
 add-put-header : tie.Need-add-put-header
-add-put-header c = omega (arith, few (c .before .before .before .before .before .before .before .before .before .before .before .before .before .before .before .before .before .before .before .before))
+add-put-header c =
+    let a = c .before .before .before .before .before .before .before .before .before .before .before .before .before .before .before .before .before
+    .before .before .before in omega (arith, few a)
 
 add-put-header-2 : tie.Need-add-put-header-2
 add-put-header-2 c = search needs
