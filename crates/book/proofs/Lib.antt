@@ -1,6 +1,5 @@
 -- Laws behind the proofs of `book`.
 pub mod Walks
 pub mod Inserting
-pub mod Classes
 pub mod Adding
 pub mod Promises

@@ -1,17 +1,15 @@
 -- What is answered of a book, and what then stands in the lent buffer and counters.
 use Prim.Native.Nat.{ℕ, zero, suc, _+_}
-use mathlib.Core.Bool.{Bool, true, false, cond}
+use mathlib.Core.Bool.{cond}
 use mathlib.Core.List.{List, [], _∷_}
 use mathlib.Core.Path.{_≡_}
 use lib.Dec.{leb, eqb}
 use lib.ListN.{length}
 use Rattle.rules.specs.Bytes.{u16At}
-use Rattle.rules.specs.Logs.{layoutOk, area}
+use Rattle.rules.specs.Logs.{area}
 use Rattle.wire.specs.Buffers.{with}
-use Rattle.exchange.specs.Meaning.{outcomeOf}
-use Rattle.exchange.specs.declared.types.Outcome.{Outcome}
 use Rattle.bookkeeping.specs.Layout.{callByte, start, bookOf, logsIn}
-use Rattle.bookkeeping.specs.Summary.{Class, classIn, counters, placeOf, raised}
+use Rattle.bookkeeping.specs.Summary.{counters, raised}
 use Rattle.bookkeeping.specs.Book as bookkeeping
 use Rattle.bookkeeping.specs.Book.{isBook, addedTo}
 use Rattle.book.specs.declared.Found.{Found}
@@ -21,17 +19,6 @@ use Rattle.book.specs.declared.Added.the-variants as added
 use Rattle.book.specs.declared.Entry.{Entry}
 use Rattle.book.specs.declared.summary.Summed.{Summed}
 use Rattle.book.specs.declared.summary.Summed.the-variants as code
-use Rattle.book.specs.declared.summary.Counted.{Counted}
-use Rattle.book.specs.declared.summary.Counted.the-variants as counted
-
--- The class of an outcome. The reply bytes play no part in it.
-abbrev pub classOf : Outcome → Class
-classOf o = classIn (outcomeOf [] o)
-
--- The log's layout is sound, and this is its counter; or `udslog` calls it bad.
-abbrev pub CountsAt : List ℕ → Counted → Type 0
-CountsAt l (counted.At place) = (layoutOk l ≡ true) × (place ≡ placeOf l)
-CountsAt l counted.BadLog = layoutOk l ≡ false
 
 -- Where the k-th log of a call stands, of logs that follow each other from index `at` on.
 abbrev pub standsAt : ℕ → ℕ → ℕ → List (List ℕ) → ℕ

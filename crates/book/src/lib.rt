@@ -1,14 +1,14 @@
 // Request Thirteen, "A book of logs with a summary": a book in lent bytes, and its summary in lent counters. What they are, is said in `bookkeeping`.
+use book_counters::Counted;
+use book_counters::counted_at;
+use book_counters::raise;
+use book_layout::MOST;
+use book_layout::call_in;
+use book_layout::is_book;
+use book_layout::log_count;
+use book_layout::log_size;
+use book_layout::start;
 use exchange::types::Place;
-use layout::MOST;
-use layout::call_in;
-use layout::is_book;
-use layout::log_count;
-use layout::log_size;
-use layout::start;
-use summary::Counted;
-use summary::counted_at;
-use summary::raise;
 use wire::part;
 use writer::insert;
 use writer::put_header;
@@ -18,7 +18,6 @@ ghost use Rattle.bookkeeping.specs.Book.{isBook, ofCall};
 ghost use Rattle.bookkeeping.specs.Layout.{logsIn};
 ghost use Rattle.book.specs.Answered.{Finds, Adds, Begins};
 
-pub mod layout;
 pub mod summary;
 mod writer;
 

@@ -1,8 +1,8 @@
 // A book as it is written: a log is put behind the others, which move on by an entry.
-use crate::layout::call_in;
-use crate::layout::log_count;
-use crate::layout::log_size;
-use crate::layout::start;
+use book_layout::call_in;
+use book_layout::log_count;
+use book_layout::log_size;
+use book_layout::start;
 use wire::copy_into;
 ghost use mathlib.Core.Path.{_≡_};
 ghost use mathlib.Core.Bool.{true};
@@ -97,7 +97,7 @@ fn move_on(book: &mut [u8], from: usize, len: usize)
 }
 
 // The offsets of the first entries, anew for logs that follow each other from index `first` on.
-fn put_offsets(book: &mut [u8], count: usize, first: usize)
+fn put_offsets(book: &mut [u8], count: u16, first: usize)
     requires { ⌜ (count ≤ 1489) × (first ≤ 65536) × (bookkeeping.start count ≤ length (now book)) ⌝ }
     ensures { λ _. ⌜ now (book .exit) ≡ take 20 (now (book .entry)) ++ moved first count (drop 20 (now (book .entry))) ⌝ }
 {
@@ -125,5 +125,5 @@ pub(crate) fn insert(book: &mut [u8], n: usize, log: &[u8])
     let entry = entry_bytes(call_in(log), log.len() as u16, (n + 8) as u32);
     copy_into(book, logs_at, &entry);
     put_offsets(book, count, logs_at + 8);
-    put_header(book, (count + 1) as u16, (logs + log.len()) as u32);
+    put_header(book, count + 1, (logs + log.len()) as u32);
 }

@@ -11,7 +11,7 @@ use Rattle.rules.specs.Logs.{layoutOk, answerOf}
 use Rattle.bookkeeping.specs.Summary.{tally}
 use Rattle.bookkeeping.specs.Book.{isBook, add, find, summary}
 use Rattle.bookkeeping.specs.Said.{linesFrom, out, said, summaryOut, addOut, addSaid}
-use Rattle.bookkeeping.specs.Rows.{one, quiet, three, books, noBooks, places, Written, Tested, Answers, Slots, Places, Raised, Lines, Streams, Said, Rows}
+use Rattle.bookkeeping.specs.Rows.{one, quiet, three, books, noBooks, places, sets, reads, Written, Tested, Answers, Slots, Places, Alone, Raised, Lines, Streams, Said, Rows}
 
 written : Written
 unfolding one quiet three log log2
@@ -22,7 +22,7 @@ unfolding books noBooks one quiet three log log2 isBook layoutOk entriesFrom
 tested = (refl, refl)
 
 answers : Answers
-unfolding one quiet three log log2 isBook add find layoutOk entriesFrom
+unfolding one quiet three log log2 isBook add find summary layoutOk entriesFrom
 answers = refl
 
 slots : Slots
@@ -31,6 +31,10 @@ slots = refl
 places-so : Places
 unfolding places quiet log log2 answerOf call withinLimits entriesFrom exchange settle look checked
 places-so = refl
+
+alone : Alone
+unfolding sets reads tally answerOf call withinLimits entriesFrom exchange settle look checked
+alone = (refl, refl)
 
 raised : Raised
 raised = (refl, refl, refl)
@@ -48,4 +52,4 @@ unfolding log isBook add addSaid tally decimalTo answerOf layoutOk call withinLi
 said-so = refl
 
 pub rows-hold : Rows
-rows-hold = (written, tested, answers, slots, places-so, raised, lines, streams, said-so)
+rows-hold = (written, tested, answers, slots, places-so, alone, raised, lines, streams, said-so)

@@ -12,7 +12,7 @@ use Rattle.rules.specs.Examples.{says, idles, closes, breaks, log}
 use Rattle.rules.specs.Lines.{ascii}
 use Rattle.rules.specs.LogRows.{logOf, changed}
 use Rattle.bookkeeping.specs.Layout.{bookOf, logsIn}
-use Rattle.bookkeeping.specs.Summary.{Class, positive, negative, suppressed, timedOut, deviating, other, classIn, slot, classAt, placeOf, more, raisedAt}
+use Rattle.bookkeeping.specs.Summary.{Class, positive, negative, suppressed, timedOut, deviating, other, classIn, slot, classAt, placeOf, afresh, more, raisedAt}
 use Rattle.bookkeeping.specs.Book.{isBook, Answer, refused, gives, addedTo, add, find, summary}
 use Rattle.bookkeeping.specs.Said.{counterLine, linesFrom, refusal, out, said, summaryOut, addOut, addSaid}
 
@@ -59,11 +59,11 @@ abbrev pub Answers : Type 0
 Answers =
     add empty log ∷ add [] log ∷ add one [] ∷ add [] [] ∷
     find one 7 0 ∷ find one 7 1 ∷ find one 6 0 ∷ find [] 7 0 ∷
-    find three 7 0 ∷ find three 7 1 ∷ find three 4 0 ∷ find three 7 2 ∷ find three 263 0 ∷ []
+    find three 7 0 ∷ find three 7 1 ∷ find three 4 0 ∷ find three 7 2 ∷ find three 263 0 ∷ summary [] ∷ []
     ≡
     gives one ∷ refused 25 ∷ refused 23 ∷ refused 25 ∷
     gives log ∷ refused 24 ∷ refused 24 ∷ refused 25 ∷
-    gives log ∷ gives log2 ∷ gives quiet ∷ refused 24 ∷ refused 24 ∷ []
+    gives log ∷ gives log2 ∷ gives quiet ∷ refused 24 ∷ refused 24 ∷ refused 25 ∷ []
 
 -- The class of every outcome, and its place in a row.
 abbrev pub outcomes : List answers.Outcome
@@ -90,6 +90,19 @@ places =
 abbrev pub Places : Type 0
 Places =
     places ≡ 7 * 261 ∷ (4 * 261 + 258) ∷ 7 * 261 ∷ (7 * 261 + 1 + 0x31) ∷ (4 * 261 + 257) ∷ (7 * 261 + 259) ∷ (7 * 261 + 260) ∷ 15 * 261 ∷ []
+
+-- "running every log in the book alone with its own timing": a session log whose answer sets P2 to 1, and a read behind it that is answered at 40. Both
+-- are positive; the read would time out if its own P2 were 1.
+unfoldable pub sets : List ℕ
+sets = logOf 1 3 0 3 0 0 0 [] (says 10 (0x50 ∷ 0x03 ∷ 0 ∷ 1 ∷ 0x01 ∷ 0xf4 ∷ []) ∷ [])
+
+unfoldable pub reads : List ℕ
+reads = logOf 7 3 0xf190 0 0 0 0 [] (says 40 (0x62 ∷ 0xf1 ∷ 0x90 ∷ 0x31 ∷ []) ∷ [])
+
+abbrev pub Alone : Type 0
+Alone =
+    (map (λ (i : ℕ). getD (afresh (sets ∷ reads ∷ [])) i 0) (261 ∷ 7 * 261 ∷ (7 * 261 + 258) ∷ []) ≡ 1 ∷ 1 ∷ 0 ∷ []) ×
+    (placeOf (changed ((27, 1) ∷ []) reads) ≡ 7 * 261 + 258)
 
 -- A counter is raised and stays at its largest number; the others stay.
 abbrev pub Raised : Type 0
@@ -118,4 +131,4 @@ abbrev pub Said : Type 0
 Said = addSaid (addedTo empty log) (add empty log) ≡ ascii "added 7 0\n7 positive 1\n"
 
 abbrev pub Rows : Type 0
-Rows = Written × Tested × Answers × Slots × Places × Raised × Lines × Streams × Said
+Rows = Written × Tested × Answers × Slots × Places × Alone × Raised × Lines × Streams × Said

@@ -1,3 +1,2 @@
 -- What the contracts of `udsbook` cite besides `bookkeeping`.
 pub mod Streams
-pub mod Words

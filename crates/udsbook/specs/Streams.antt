@@ -1,35 +1,32 @@
--- What stands at the front of the buffers that are written to the two streams.
+-- What each command of `udsbook` writes to the two streams, of the book and the log that were read.
 use Prim.Native.Nat.{ℕ}
-use mathlib.Core.List.{List, [], _∷_, _++_}
+use mathlib.Core.List.{List, []}
 use mathlib.Core.Path.{_≡_}
-use lib.ListN.{getD, take}
-use Rattle.rules.specs.Lines.{ascii, decimal}
+use lib.ListN.{take}
 use Rattle.rules.specs.Logs.{area}
-use Rattle.text.specs.Written.{counted}
-use Rattle.bookkeeping.specs.Book as bookkeeping
+use Rattle.bookkeeping.specs.Layout.{bookOf}
+use Rattle.bookkeeping.specs.Book.{addedTo, add, find, summary}
 use Rattle.bookkeeping.specs.Said as Said
-use Rattle.udsbook.specs.declared.Streams.{Streams}
-use Rattle.udsbook.specs.declared.Piece.{Piece}
+use Rattle.book_text.specs.Texts.{usage}
+use Rattle.book_words.specs.declared.Command.{Command}
+use Rattle.book_words.specs.declared.Command.the-variants.{New, Add, Find, Summary, Usage}
+use Rattle.udsbook.specs.declared.Ends.{Ends}
 
--- "CALL WORD N", the word with its space.
-abbrev pub rowText : ℕ → List ℕ → ℕ → List ℕ
-rowText call word n = decimal call ++ counted word n ++ (10 ∷ [])
+abbrev pub outOf : Command → List ℕ → List ℕ → List ℕ
+outOf New b log = bookOf []
+outOf Add b log = Said.addOut b (add b log)
+outOf (Find c k) b log = Said.out (find b c k)
+outOf Summary b log = Said.summaryOut (summary b)
+outOf Usage b log = []
 
--- "added CALL K", and the line of the counter at a place.
-abbrev pub addedText : ℕ → ℕ → ℕ → List ℕ → List ℕ
-addedText call number place summary = counted (ascii "added") call ++ counted [] number ++ (10 ∷ Said.counterLine place (getD summary place 0))
+abbrev pub saidOf : Command → List ℕ → List ℕ → List ℕ
+saidOf New b log = []
+saidOf Add b log = Said.addSaid (addedTo b log) (add b log)
+saidOf (Find c k) b log = Said.said (find b c k)
+saidOf Summary b log = Said.said (summary b)
+saidOf Usage b log = usage
 
--- `udsbook add`, of a book and a log.
-pub record Adds (b log : List ℕ) (r : Streams) (book said : List ℕ) : Type 0 where
-  pub out : take (r .out) book ≡ Said.addOut b (bookkeeping.add b log)
-  pub report : take (r .said) said ≡ Said.addSaid (bookkeeping.addedTo b log) (bookkeeping.add b log)
-
--- `udsbook find`: the log is a part of the book.
-pub record Finds (b : List ℕ) (c k : ℕ) (r : Piece) (said : List ℕ) : Type 0 where
-  pub out : area b (r .at) (r .len) ≡ Said.out (bookkeeping.find b c k)
-  pub report : take (r .said) said ≡ Said.said (bookkeeping.find b c k)
-
--- `udsbook summary`
-pub record Sums (b : List ℕ) (r : Streams) (text said : List ℕ) : Type 0 where
-  pub out : take (r .out) text ≡ Said.summaryOut (bookkeeping.summary b)
-  pub report : take (r .said) said ≡ Said.said (bookkeeping.summary b)
+-- The two parts of the buffers are these bytes.
+pub record Answers (command : Command) (b log : List ℕ) (r : Ends) (book said : List ℕ) : Type 0 where
+  pub out : area book (r .at) (r .out) ≡ outOf command b log
+  pub report : take (r .said) said ≡ saidOf command b log

@@ -1,8 +1,8 @@
 -- `add` meets its contract.
 use native.Mathlib.Omega.{arith}
 use Rattle.book.proofs.Adding as adding
-use Rattle.book.proofs.Walks.{take-taken}
-use Rattle.book.specs.Answered.{CountsAt}
+use Rattle.book_layout.proofs.Walks.{take-taken}
+use Rattle.book_counters.specs.Counted.{CountsAt}
 use Rattle.bookkeeping.specs.Book.{Added, isBook, ofCall, addedTo}
 use Rattle.bookkeeping.specs.Summary.{raisedAt}
 use Rattle.bookkeeping.specs.Layout.{bookOf, logsIn}

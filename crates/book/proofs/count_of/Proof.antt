@@ -2,7 +2,8 @@
 use lib.ListN.{take, drop, length-take}
 use native.Mathlib.Omega.{arith}
 use borrow.Author.Needs.{needs}
-use Rattle.book.proofs.Walks.{left, logAt, short-log, all-left, none-left, one-of-call, none-of-call}
+use Rattle.book_layout.proofs.Walks.{left, logAt, short-log, all-left, none-left}
+use Rattle.book.proofs.Walks.{one-of-call, none-of-call}
 use Rattle.bookkeeping.specs.Book.{ofCall}
 use Rattle.bookkeeping.specs.Layout.{start, logsIn}
 use lib.ListN.{length}

@@ -3,8 +3,9 @@ use mathlib.Core.Path.{subst⁻¹}
 use lib.ListN.{take, drop, length-take}
 use native.Mathlib.Omega.{arith}
 use borrow.Author.Needs.{needs}
-use Rattle.book.proofs.Walks.{logAt, short-log, nth, finds, finds-none, no-book, all-left, none-left, others, found-here, passed-by, counted-off, as-read}
-use Rattle.book.proofs.Walks as walks
+use Rattle.book_layout.proofs.Walks.{logAt, short-log, all-left, none-left}
+use Rattle.book.proofs.Walks.{nth, finds, finds-none, no-book, others, found-here, passed-by, counted-off, as-read}
+use Rattle.book_layout.proofs.Walks as walks
 use Rattle.book.specs.Answered.{standsAt}
 use Rattle.bookkeeping.specs.Book as bookkeeping
 use Rattle.bookkeeping.specs.Layout.{start, logsIn}

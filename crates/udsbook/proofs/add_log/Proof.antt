@@ -21,20 +21,13 @@ enum-known-m : tie.Need-enum-known-m
 enum-known-m c = search needs
 
 put-added-requires : tie.Need-put-added-requires
-put-added-requires c κs =
-    let at-summary2 = c .before .before .before .before .before .before in
-    let a = c .before .before .before .before .before .before .before .before .before in
-    let start = a .before .before .before .before .before .before .before .before .before .before .before .before .before in
-    (omega (arith, at-summary2 .summary2 .given, a .before .before .before .before .summary .given, start .pre .1), start .pre .2)
+put-added-requires c κs = search needs
 
 enum-known-number : tie.Need-enum-known-number
 enum-known-number c = search needs
 
 put-refusal-requires : tie.Need-put-refusal-requires
-put-refusal-requires c κs =
-    let start = c .before .before .before .before .before .before .before .before .before .before .before .before .before .before .before .before .before
-    .before .before .before .before in
-    start .pre .2
+put-refusal-requires c κs = search needs
 
 same-length : tie.Need-same-length
 same-length c = search needs
@@ -55,7 +48,7 @@ returns c =
     let x = start .args in
     let book = take (x .n) (x .book .now) in
     refused-25 book (x .log .now) (x .book .now) (x .summary .now) (s .summarize .last .1 .0) (a .add .last .0) (a .add .last .1 .1 .1 .0) (x .said .now)
-    (put .put-refusal .last .0) (x .n)
+    (put .put-refusal .last .0) (start .pre .2) (x .n)
     (number .0 .0) (put .put-refusal .result) (rw (number .1) at (a .add .ensures)) (put .put-refusal .ensures) (c .if1 .taken)
 
 enum-told : tie.Need-enum-told
@@ -79,9 +72,11 @@ returns-2 c =
     let start = s .before .before .before .before .before .before .before .before in
     let x = start .args in
     let book = take (x .n) (x .book .now) in
+    let few : length (a .add .last .1 .1 .1 .0) ≤ 4176 =
+    omega (arith, a .before .before .before .before .summary .given, put .before .before .before .before .before .before .before .summary2 .given, start .pre .1) in
     added book (x .log .now) (x .book .now) (x .summary .now) (s .summarize .last .1 .0) (a .add .last .0) (a .add .last .1 .1 .1 .0) (x .said .now)
-    (put .put-added .last .0) (s .summarize .result)
-    (m .0 .0) (put .put-added .result) (m .0 .1 .0) (start .pre .1) (rw (s .before .before .part .ensures) at (s .summarize .ensures))
+    (put .put-added .last .0) (start .pre .2) (s .summarize .result)
+    (m .0 .0) (put .put-added .result) (m .0 .1 .0) (start .pre .1) few (rw (s .before .before .part .ensures) at (s .summarize .ensures))
     (rw (m .1) at (a .add .ensures)) (put .put-added .ensures)
 
 same-length-7 : tie.Need-same-length-7
@@ -103,7 +98,7 @@ returns-3 c =
     let x = start .args in
     let book = take (x .n) (x .book .now) in
     refused book (x .log .now) (x .book .now) (x .summary .now) (s .summarize .last .1 .0) (a .add .last .0) (a .add .last .1 .1 .1 .0) (x .said .now)
-    (put .put-refusal .last .0) (x .n)
+    (put .put-refusal .last .0) (start .pre .2) (x .n)
     (number .0 .0) (put .put-refusal .result) (rw (number .1) at (a .add .ensures)) (put .put-refusal .ensures) (c .if1 .left) refl
 
 same-length-10 : tie.Need-same-length-10
@@ -120,7 +115,7 @@ returns-4 c =
     let x = start .args in
     let book = take (x .n) (x .book .now) in
     absurd (room-enough book (x .log .now) (x .book .now) (x .summary .now) (s .summarize .last .1 .0) (a .add .last .0) (a .add .last .1 .1 .1 .0)
-    (x .said .now) (x .said .now)
+    (x .said .now) (x .said .now) (start .pre .2)
     (start .pre .0) (rw (c .enum-told .given .1) at (a .add .ensures)))
 
 pub add-log-spec : {M : Type 1} → statement M

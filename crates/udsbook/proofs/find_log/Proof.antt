@@ -4,6 +4,9 @@ use borrow.Author.Needs.{needs}
 use Rattle.udsbook.proofs.find_log.Statement.{statement}
 use Rattle.udsbook.proofs.find_log.Tie as tie
 
+part-requires : tie.Need-part-requires
+part-requires c κs = search needs
+
 find-requires : tie.Need-find-requires
 find-requires c κs = search needs
 
@@ -19,9 +22,9 @@ put-refusal-requires c κs = search needs
 returns : tie.Need-returns
 returns c =
     let f = c .before .before .before in
-    let x = f .before .before .before .args in
+    let x = f .before .before .before .before .args in
     let place = c .before .place .given in
-    found-log (x .book .now) (x .call) (x .k) (place .0 .0) (x .said .now) (rw (place .1) at (f .find .ensures))
+    found-log (x .book .now) (x .n) (x .call) (x .k) (place .0 .0) (x .said .now) (rw (place .1, f .before .part .ensures) at (f .find .ensures))
 
 same-length : tie.Need-same-length
 same-length c = search needs
@@ -31,14 +34,16 @@ returns-2 c =
     let put = c .before .before in
     let number = put .before .before .before .number .given in
     let f = put .before .before .before .before .before in
-    let x = f .before .before .before .args in
-    not-found (x .book .now) (x .call) (x .k) (number .0 .0) (put .put-refusal .result) (x .said .now) (put .put-refusal .last .0)
-    (rw (number .1) at (f .find .ensures)) (put .put-refusal .ensures)
+    let start = f .before .before .before .before in
+    let x = start .args in
+    not-found (x .book .now) (x .n) (x .call) (x .k) (number .0 .0) (put .put-refusal .result) (x .said .now) (put .put-refusal .last .0) (start .pre)
+    (rw (number .1, f .before .part .ensures) at (f .find .ensures)) (put .put-refusal .ensures)
 
 pub find-log-spec : {M : Type 1} → statement M
 find-log-spec =
     tie.close
     (tie.spec
+    part-requires
     find-requires
     enum-known-place
     enum-known-number

@@ -1,7 +1,8 @@
 -- `summarize` meets its contract: with the logs that are left, the counters come to the summary.
 use native.Mathlib.Omega.{arith}
 use borrow.Author.Needs.{needs}
-use Rattle.book.proofs.Walks.{left, logAt, all-left, none-left, no-summary, sums, others, walked}
+use Rattle.book_layout.proofs.Walks.{left, logAt, all-left, none-left}
+use Rattle.book.proofs.Walks.{no-summary, sums, others, walked}
 use Rattle.book.specs.Answered.{summed, countersAfter}
 use Rattle.bookkeeping.proofs.Counting.{raisedAll, one-by-one, few-logs, length-afresh}
 use Rattle.bookkeeping.proofs.Books.{opened}

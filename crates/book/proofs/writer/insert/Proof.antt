@@ -103,18 +103,15 @@ put-offsets-requires c κs =
     )
 
 add-put-header : tie.Need-add-put-header
-add-put-header c = search needs
-
-cast-put-header : tie.Need-cast-put-header
-cast-put-header c =
+add-put-header c =
     let a = c .before .before .before .before .before .before .before .before .before .before .before .before .before .before .before .before .before
     .before .before .before in omega (arith, few a)
 
 add-put-header-2 : tie.Need-add-put-header-2
 add-put-header-2 c = search needs
 
-cast-put-header-2 : tie.Need-cast-put-header-2
-cast-put-header-2 c = search needs
+cast-put-header : tie.Need-cast-put-header
+cast-put-header c = search needs
 
 put-header-requires : tie.Need-put-header-requires
 put-header-requires c κs = search needs
@@ -172,9 +169,8 @@ insert-spec =
     add-put-offsets
     put-offsets-requires
     add-put-header
-    cast-put-header
     add-put-header-2
-    cast-put-header-2
+    cast-put-header
     put-header-requires
     same-length
     returns)

@@ -1,0 +1,2 @@
+-- Laws behind the proofs of `book_layout`.
+pub mod Walks

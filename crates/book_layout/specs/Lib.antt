@@ -1,0 +1,1 @@
+-- The contracts of `book_layout` cite `bookkeeping` alone.

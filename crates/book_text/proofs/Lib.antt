@@ -1,0 +1,2 @@
+-- Laws behind the proofs of `book_text`.
+pub mod Texts

@@ -1,0 +1,3 @@
+-- Laws behind the proofs of `book_words`.
+pub mod Digits
+pub mod Commands

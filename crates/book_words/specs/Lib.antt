@@ -1,0 +1,2 @@
+-- What the contracts of `book_words` cite.
+pub mod Words
