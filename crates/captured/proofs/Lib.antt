@@ -1,0 +1,3 @@
+-- Laws behind the proofs of `captured`.
+pub mod Written
+pub mod Putting
