@@ -26,6 +26,7 @@ use Rattle.importing.specs.Promises.{entriesFrom, repliesOf}
 use Rattle.importing.proofs.Passes.{passes, no-source, long}
 use Rattle.captured.specs.Capture.{isCall, from, logOf, Captured, log, tooLong, noCall, capture}
 use Rattle.captured.specs.Promises.{Finds, Holds}
+use Rattle.captured.proofs.NotTen.{not-ten}
 
 -- Events in a form, all from one address.
 module _ (form : Form) (source : ℕ) where
@@ -239,6 +240,9 @@ finds call is bytes ok w =
     let h = headerOf call in
     let l = logOf call es rs in
     let read : headerOf l ≡ corrected h (length es) (length rs) = writing .header-read (corrected h (length es) (length rs)) _ (sayable call bytes) in
+    let in-limits =
+    subst⁻¹ (λ (g : Header). withinLimits (formIn g) (eventBytes g l) (replyBytes g l) ≡ true) read
+    (rw (events-there call es rs ok, replies-there call es rs ok) (in-form (formIn h) (h .listens) (says-address call es rs ok) rs is w)) in
     record {
       header = read;
       arguments = ap (λ (g : Header). argumentBytes g l) read ∙ arguments-there call es rs ok;
@@ -247,9 +251,8 @@ finds call is bytes ok w =
       sound =
           subst⁻¹ (λ (g : Header). (laidOut g l && fieldsOk g (usesOf (g .call))) ≡ true) read
           (sound-as call es rs ok (replies-ok (formIn h) (h .listens) 0 is));
-      limits =
-          subst⁻¹ (λ (g : Header). withinLimits (formIn g) (eventBytes g l) (replyBytes g l) ≡ true) read
-          (rw (events-there call es rs ok, replies-there call es rs ok) (in-form (formIn h) (h .listens) (says-address call es rs ok) rs is w));
+      limits = in-limits;
+      not-ten = not-ten l in-limits;
     }
 
 pub holds : Holds

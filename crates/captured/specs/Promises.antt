@@ -4,17 +4,18 @@ use mathlib.Core.Bool.{true}
 use mathlib.Core.List.{List, map}
 use mathlib.Core.Path.{_≡_}
 use lib.ListN.{length}
+use Rattle.rules.specs.Answers.{refused}
 use Rattle.rules.specs.Bytes.{every, isByte}
 use Rattle.rules.specs.Events.{plain, Entry, entries, withinLimits}
-use Rattle.rules.specs.Logs.{formIn, headerOf, argumentBytes, eventBytes, replyBytes, layoutOk}
+use Rattle.rules.specs.Logs.{formIn, headerOf, argumentBytes, eventBytes, replyBytes, layoutOk, answerOf}
 use Rattle.rules.specs.Writing.{putEntries}
 use Rattle.mending.specs.Mend.{corrected}
 use Rattle.importing.specs.Import.{Item, imported, told}
 use Rattle.importing.specs.Promises.{entriesFrom, repliesOf}
 use Rattle.captured.specs.Capture.{from, log, capture}
 
--- What `udslog` finds in the log: the header of the call with the counts and offsets of these events, its arguments, these events, these replies; it
--- does not call the log bad, and the events pass refusal 10.
+-- What `udslog` finds in the log: the header of the call with the counts and offsets of these events, its arguments, these events, these replies. It
+-- does not call the log bad; the events pass the test of refusal 10, and the answer is never that refusal.
 pub record Finds (call : List ℕ) (es : List Entry) (rs l : List ℕ) : Type 0 where
   pub header : headerOf l ≡ corrected (headerOf call) (length es) (length rs)
   pub arguments : argumentBytes (headerOf l) l ≡ argumentBytes (headerOf call) call
@@ -22,6 +23,7 @@ pub record Finds (call : List ℕ) (es : List Entry) (rs l : List ℕ) : Type 0 
   pub replies : replyBytes (headerOf l) l ≡ rs
   pub sound : layoutOk l ≡ true
   pub limits : withinLimits (formIn (headerOf l)) (eventBytes (headerOf l) l) (replyBytes (headerOf l) l) ≡ true
+  pub not-ten : answerOf l .outcome ≡ refused 10 → ⊥
 
 -- For every text that is imported, and every call: where a log comes out, `udslog` finds this in it.
 abbrev pub Holds : Type 0
