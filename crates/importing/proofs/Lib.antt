@@ -6,3 +6,4 @@ pub mod Rows
 pub mod Rises
 pub mod Passes
 pub mod Room
+pub mod Senders
