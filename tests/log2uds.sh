@@ -3,8 +3,9 @@
 
 captures=examples/captures
 
-# The program is built before it is tested.
+# The programs are built before they are tested.
 ./log2uds 7E0 7E8 <"$captures/count-with-a-wait.log" >/dev/null 2>&1 || return
+./udslog </dev/null >/dev/null 2>&1 || return
 
 # The captures, as the yards send them.
 import() { ./log2uds 7E0 7E8 <"$captures/$1.log"; }
@@ -48,10 +49,10 @@ shape() {
 timing=000000320000138800000000
 try "log2uds: the hoist's count, judged" 0 "positive 520 2 1 03e8" "" judge hoist-count count-with-a-wait
 try "log2uds: in version 2, from the address listened to" 0 "positive 520 2 1 03e8" "" judge hoist-count-addressed count-with-a-wait
-try "log2uds: a capture of another request deviates" 0 "deviation 14 1 0 0862f190484f49535420445249564520303030303a" "" judge hoist-count a-long-record
-plain=00010703210100000000"0000002400020024000800380040"$timing"00000014000000000003""00000208000000030005"7f227862210103e8
+try "log2uds: a capture of another request deviates" 0 "deviation 14 1 0 0562f190484f49535420445249564520303030303a" "" judge hoist-count a-long-record
+plain="000107032101000000000000002400020024000800380040${timing}00000014000000000003000002080000000300057f227862210103e8"
 try "log2uds: the log's bytes, version 1" 0 "$plain" "" shape hoist-count count-with-a-wait
-addressed=000207032101000000"07e8""00000025000200250008003d0045"$timing"0000001400000000000307e8""0000020800000003000507e8"7f227862210103e8
+addressed="00020703210100000007e800000025000200250008003d0045${timing}0000001400000000000307e80000020800000003000507e87f227862210103e8"
 try "log2uds: the log's bytes, version 2" 0 "$addressed" "" shape hoist-count-addressed count-with-a-wait
 long_log() { # long_log COUNT: a request, and so many replies of 4,095 bytes
     echo '(0.000000) c 7E0#0101'
@@ -78,6 +79,7 @@ for call in with-an-event cut empty no-such-file .; do
     called() { ./log2uds 7E0 7E8 "$room/$call" </dev/null; }
     try "log2uds: '$call' is no log without events" 2 "" "usage: log2uds" called
 done
+try "log2uds: '-' is a file like any other" 2 "" "usage: log2uds" ./log2uds 7E0 7E8 -
 try "log2uds: four words" 2 "" "usage: log2uds" ./log2uds 7E0 7E8 "$room/hoist-count" "$room/hoist-count"
 
 # Lines of any length, texts of any length, in pieces and without a last LF.
