@@ -1,10 +1,10 @@
 -- Events within the limits are never refused with 10.
 use Prim.Native.Nat.{ℕ, _≤_}
 use native.Mathlib.Omega.{arith}
-use mathlib.Core.Bool.{Bool, true, false, cond}
+use mathlib.Core.Bool.{Bool, true, false}
 use mathlib.Core.List.{List, [], _∷_, _++_}
 use mathlib.Core.Option.{Option, none, some}
-use mathlib.Core.Path.{_≡_, refl, ap, subst⁻¹}
+use mathlib.Core.Path.{_≡_, ap, subst⁻¹}
 use lib.Dec.{leb, eqb}
 use lib.ListN.{length}
 use Rattle.rules.specs.After.{serviceChecks, handed, checked, after}
@@ -97,7 +97,8 @@ not-ten-of : (strict : Bool) (w : Setting) (c : Call) (l : Lent) → withinLimit
 unfolding call
 not-ten-of strict w c l h =
     subst⁻¹ P (judge-append (refuse w l) (arguments c) last right)
-    (judge-faults (λ (f : ℕ). f ≤ 9) P (refuse w l) (arguments c) (judge (refuse w l) last right) (of-arguments c) small (λ _. by-tests (leb (length message) 4095) (leb (length message) (length (l .buffer)))))
+    (judge-faults (λ (f : ℕ). f ≤ 9) P (refuse w l) (arguments c) (judge (refuse w l) last right) (of-arguments c) small
+    (λ _. by-tests (leb (length message) 4095) (leb (length message) (length (l .buffer)))))
   where
     P : Result → Type 0
     P y = y .answer .outcome ≡ refused 10 → ⊥

@@ -1,16 +1,16 @@
 -- The parts of a log, put one by one.
-use Prim.Native.Nat.{ℕ, zero, suc, _+_, _*_, _/_, _≤_}
+use Prim.Native.Nat.{ℕ, zero, suc, _+_, _*_, _≤_}
 use native.Mathlib.Nat.{add-zero, zero-add}
 use native.Mathlib.Numerals.{add-one}
 use native.Mathlib.Omega.{arith}
 use mathlib.Core.Bool.{Bool, true, false, cond, _&&_, false≢true}
 use mathlib.Core.List.{List, [], _∷_, _++_, map, append-assoc, append-nil}
 use mathlib.Core.Option.{Option, none, some}
-use mathlib.Core.Path.{_≡_, refl, sym, _∙_, ap, ap₂, subst, subst⁻¹}
+use mathlib.Core.Path.{_≡_, refl, sym, _∙_, ap, subst, subst⁻¹}
 use lib.Dec.{leb, eqb}
 use lib.ListN.{length}
 use borrow.Author.Tests.{le-leb, leb-true}
-use Rattle.rules.specs.Events.{Form, plain, eventSize, Entry, entryAt, entries}
+use Rattle.rules.specs.Events.{Form, plain, eventSize, Entry, entryAt}
 use Rattle.rules.specs.Events as Events
 use Rattle.rules.specs.Logs.{Header, headerSize, formIn, headerOf, usesOf, fieldsOk, argumentBytes, laidOut, layoutOk}
 use Rattle.rules.specs.Writing.{putHeader, putEntry, putEntries}
@@ -21,7 +21,7 @@ use Rattle.logs.proofs.Copying.{both}
 use Rattle.mending.specs.Mend.{corrected}
 use Rattle.mend.specs.Recounted.{recounted}
 use Rattle.mend.proofs.Copies.{then, as-long}
-use Rattle.captured.specs.Capture.{isCall, from, logOf, log, tooLong, noCall, capture}
+use Rattle.captured.specs.Capture.{isCall, from, logOf, log, capture}
 use Rattle.captured.specs.Answered.{Places, Captures}
 use Rattle.captured.specs.declared.Captured.the-variants.{Log, TooLong, NoCall}
 use Rattle.captured.proofs.Written.{put-long, length-arguments, length-log}

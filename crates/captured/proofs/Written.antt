@@ -1,5 +1,5 @@
 -- What stands where in the log of a capture, and what `udslog` finds in it.
-use Prim.Native.Nat.{ℕ, suc, _+_, _*_, _/_, _%_, _≤_}
+use Prim.Native.Nat.{ℕ, _+_, _*_, _/_, _%_}
 use native.Mathlib.Nat.{suc-mul, zero-mul}
 use native.Mathlib.Omega.{arith}
 use mathlib.Core.Bool.{Bool, true, false, cond, _&&_, _||_, false≢true}
@@ -8,7 +8,7 @@ use mathlib.Core.Path.{_≡_, refl, sym, _∙_, ap, subst, subst⁻¹}
 use lib.Dec.{leb, eqb}
 use lib.ListN.{length, take, drop, length-append}
 use lib.Seq.{take-at, drop-at, drop-drop, take-length}
-use borrow.Author.Tests.{le-leb, leb-true, eq-eqb, eqb-true}
+use borrow.Author.Tests.{le-leb, leb-true, eq-eqb}
 use Rattle.rules.specs.Bytes.{every, isByte}
 use Rattle.rules.specs.Conversations.{Every}
 use Rattle.rules.specs.Events.{Form, plain, addressed, eventSize, Entry, entries, sound, rising, withinLimits}
@@ -20,7 +20,7 @@ use Rattle.mending.specs.Mend.{corrected}
 use Rattle.mending.proofs.Runs.{whole-exact, whole-rest}
 use Rattle.mending.proofs.Taken.{Laid, laid}
 use Rattle.mending.proofs.Written.{length-area, sayable}
-use Rattle.importing.specs.Import.{Item, request, reply, dropped, count, imported, told}
+use Rattle.importing.specs.Import.{Item, request, reply, dropped, count}
 use Rattle.importing.specs.Kept.{entry}
 use Rattle.importing.specs.Promises.{entriesFrom, repliesOf}
 use Rattle.importing.proofs.Passes.{passes, no-source, long}

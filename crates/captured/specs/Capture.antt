@@ -5,7 +5,7 @@ use mathlib.Core.List.{List, _++_, map}
 use lib.Dec.{leb, eqb}
 use lib.ListN.{length}
 use Rattle.rules.specs.Events.{Entry}
-use Rattle.rules.specs.Logs.{Header, formIn, headerOf, argumentBytes, layoutOk}
+use Rattle.rules.specs.Logs.{formIn, headerOf, argumentBytes, layoutOk}
 use Rattle.rules.specs.Writing.{putHeader, putEntries}
 use Rattle.mending.specs.Mend.{corrected}
 

@@ -6,9 +6,8 @@ use mathlib.Core.Path.{_≡_}
 use lib.ListN.{length}
 use Rattle.rules.specs.Answers.{refused}
 use Rattle.rules.specs.Bytes.{every, isByte}
-use Rattle.rules.specs.Events.{plain, Entry, entries, withinLimits}
+use Rattle.rules.specs.Events.{Entry, entries, withinLimits}
 use Rattle.rules.specs.Logs.{formIn, headerOf, argumentBytes, eventBytes, replyBytes, layoutOk, answerOf}
-use Rattle.rules.specs.Writing.{putEntries}
 use Rattle.mending.specs.Mend.{corrected}
 use Rattle.importing.specs.Import.{Item, imported, told}
 use Rattle.importing.specs.Promises.{entriesFrom, repliesOf}

@@ -15,8 +15,8 @@ use Rattle.candump.proofs.Reading.{reads}
 use Rattle.importing.specs.Texts.{linesFrom}
 use Rattle.importing.specs.Import as import
 use Rattle.importing.specs.Import.{Item, request, reply, dropped, Known, Import, started, drops, gives, heard, next, within, walk, imported}
-use Rattle.importing.specs.Kept.{Tally, tally, fitsIn, replied, overflowed, noteDrop, noteReply, note, Log, log, logGiven, Kept, kept, Going, going, refusedAt, step, Stream, stream}
-use Rattle.importing.specs.Kept.{readLine, byte, bytes, judged, ended, start, lines, refused, Written}
+use Rattle.importing.specs.Kept.{Tally, tally, fitsIn, replied, overflowed, noteDrop, noteReply, note, log, Kept, kept, Going, going, refusedAt, step, Stream, stream}
+use Rattle.importing.specs.Kept.{byte, bytes, judged, ended, start, lines, refused, Written}
 use Rattle.importing.specs.Promises.{tell, tells, nothing, written, Imports}
 use Rattle.importing.proofs.Logged.{logs, logs-behind, given-logged, logs-all}
 use Rattle.importing.proofs.Overflows.{overflows}

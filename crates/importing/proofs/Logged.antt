@@ -1,18 +1,18 @@
 -- The events kept for a log are those of what is told.
-use Prim.Native.Nat.{ℕ, _+_, _-_, _/_, _≤_}
+use Prim.Native.Nat.{ℕ, _+_, _-_, _≤_}
 use native.Mathlib.Omega.{arith}
-use mathlib.Core.Bool.{Bool, true, false, cond, _&&_}
+use mathlib.Core.Bool.{Bool, true, false, _&&_}
 use mathlib.Core.List.{List, [], _∷_, _++_, append-assoc, append-nil}
 use mathlib.Core.Option.{Option, none, some}
-use mathlib.Core.Path.{_≡_, refl, sym, _∙_, ap, ap₂}
-use lib.Dec.{leb, ltb}
+use mathlib.Core.Path.{_≡_, refl, sym, _∙_, ap₂}
+use lib.Dec.{leb}
 use lib.ListN.{length}
 use borrow.Author.Tests.{le-leb, lt-ltb, leb-true}
 use Rattle.rules.specs.Events.{plain}
 use Rattle.rules.specs.Writing.{putEntry, putEntries}
 use Rattle.rules.proofs.Judging.{both}
 use Rattle.importing.specs.Import.{Item, request, reply, dropped, drops, gives, count, size, early, within}
-use Rattle.importing.specs.Kept.{Tally, fitsIn, replied, Log, log, entry, logged, logReply, logGiven}
+use Rattle.importing.specs.Kept.{Tally, replied, Log, log, entry, logged, logReply, logGiven}
 use Rattle.importing.specs.Promises.{tell, tells, nothing, entriesFrom, repliesOf}
 
 -- What is told is kept item by item, beside the tally t.

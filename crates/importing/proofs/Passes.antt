@@ -21,9 +21,11 @@ use Rattle.isotp.specs.Joining as joining
 use Rattle.isotp.specs.Joining.{State, idle, under, Fed, fed, feed, busy, grown, goesOn, singles, firsts}
 use Rattle.candump.specs.Text.{Space, Digit, Hex, Printable, between, run, past, number, worth, pairs}
 use Rattle.candump.specs.Lines as lines
-use Rattle.candump.specs.Lines.{Line, blank, unreadable, other, frame, front, rest, isData, isRemote, isFd, classic, content, isIdentifier, identifier, identified, unnamed, named, timed, micros, seconds, opened, bare, read}
+use Rattle.candump.specs.Lines.{Line, blank, unreadable, other, frame, front, rest, isData, isRemote, isFd, classic}
+use Rattle.candump.specs.Lines.{content, isIdentifier, identifier, identified, unnamed, named, timed, micros, seconds, opened, bare, read}
 use Rattle.importing.specs.Texts.{linesFrom}
-use Rattle.importing.specs.Import.{Item, request, reply, dropped, Known, Import, going, refusedAt, begins, next, started, drops, gives, heard, framed, passed, inOrder, step, walk, count, size, early, within}
+use Rattle.importing.specs.Import.{Item, request, reply, dropped, Known, Import, going, refusedAt, begins, next, started}
+use Rattle.importing.specs.Import.{drops, gives, heard, framed, passed, inOrder, step, walk, count, size, early, within}
 use Rattle.importing.specs.Import.{Imported, refusedLine, refused, told, judged, imported}
 use Rattle.importing.specs.Promises.{rises, entriesFrom, repliesOf, Passes}
 use Rattle.importing.proofs.Rises.{never-fall, limited, toldIn}

@@ -15,10 +15,10 @@ use Rattle.rules.proofs.Judging.{both}
 use Rattle.text.specs.Written.{item, behind}
 use Rattle.text.proofs.Numerals.{digits, item-length}
 use Rattle.importing.specs.Import as import
-use Rattle.importing.specs.Import.{Item, request, reply, dropped, next, count, size, early, within, Imported, imported}
-use Rattle.importing.specs.Kept.{Tally, tally, append, fitsIn, replied, overflowed, noteDrop, log, lines, Written}
+use Rattle.importing.specs.Import.{Item, request, reply, dropped, next, count, size, early, Imported, imported}
+use Rattle.importing.specs.Kept.{Tally, tally, append, log, lines}
 use Rattle.importing.specs.Promises.{tell, tells, nothing, lineOf, linesFrom, givenUpFrom, written, inFull, entriesFrom, repliesOf, Suffices}
-use Rattle.importing.proofs.Passes.{Messages, requests, Good, good}
+use Rattle.importing.proofs.Passes.{Messages, requests, good}
 use Rattle.importing.proofs.Rises.{limited}
 
 -- A line's length.

@@ -1,15 +1,14 @@
 -- A correct sender's messages, carried through the import.
-use Prim.Native.Nat.{ℕ, _-_, _/_}
+use Prim.Native.Nat.{ℕ, _-_}
 use mathlib.Core.Bool.{Bool, true, false, cond, _||_, false≢true}
 use mathlib.Core.List.{List, [], _∷_, _++_, map, append-assoc, append-nil}
 use mathlib.Core.Option.{Option, none, some}
 use mathlib.Core.Path.{_≡_, refl, sym, _∙_, ap, ap₂}
 use lib.Dec.{ltb, eqb}
 use Rattle.isotp.specs.Joining as joining
-use Rattle.isotp.specs.Joining.{State, idle, Fed, feed, Told, message, tells}
-use Rattle.isotp.specs.Sending.{segment}
-use Rattle.isotp.specs.Bus.{Frame, Note, noted, listen, listened, ours}
-use Rattle.isotp.specs.Laws.{Sent, Sendable, Every, segments}
+use Rattle.isotp.specs.Joining.{State, Fed, feed, Told, message, tells}
+use Rattle.isotp.specs.Bus.{Frame, Note, noted, listen, listened}
+use Rattle.isotp.specs.Laws.{Sent}
 use Rattle.isotp.proofs.Feeding.{passes-over}
 use Rattle.isotp.proofs.Bus.{gives-all-back}
 use Rattle.isotp.proofs.Stamps.{stamps}

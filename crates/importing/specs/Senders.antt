@@ -10,7 +10,7 @@ use Rattle.isotp.specs.Bus.{Frame, Note, listened, ours}
 use Rattle.isotp.specs.Laws.{Sent, Sendable, Every, segments}
 use Rattle.candump.specs.Lines.{Line, blank, unreadable, other, frame, read}
 use Rattle.importing.specs.Texts.{lines}
-use Rattle.importing.specs.Import.{Item, request, reply, dropped, Known, Import, going, begins, next, walk, told, imported}
+use Rattle.importing.specs.Import.{Item, request, reply, dropped, Known, going, begins, next, walk, told, imported}
 
 -- The frames of lines, behind line n.
 abbrev pub frameIn : ℕ → Line → List Frame

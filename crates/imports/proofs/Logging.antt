@@ -9,9 +9,8 @@ use lib.Dec.{leb, ltb}
 use lib.ListN.{length, take, drop, length-append, length-drop}
 use lib.Seq.{length-take-le, take-append-le, take-take, take-add, take-at, drop-at, drop-drop, drop-append-le}
 use borrow.Author.Tests.{le-leb, leb-true}
-use Rattle.rules.specs.Events.{plain, Entry}
+use Rattle.rules.specs.Events.{plain}
 use Rattle.rules.specs.Writing.{putEntry}
-use Rattle.rules.proofs.Writing.{writing}
 use Rattle.wire.specs.Buffers.{Copied, with}
 use Rattle.isotp.specs.Held.{givenOf}
 use Rattle.isotp.specs.declared.Gives.{Gives}

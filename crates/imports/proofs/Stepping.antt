@@ -21,7 +21,7 @@ use Rattle.candump.specs.Lines.{Line}
 use Rattle.candump.specs.Reading.{lineOf}
 use Rattle.candump.specs.declared.Found.{Found}
 use Rattle.imports.proofs.Logging.{counts, same-given}
-use Rattle.imports.specs.Held.{startOf, tallyOf, heldLog, logIn, logOf, keptOf, goingOf, Tallied}
+use Rattle.imports.specs.Held.{startOf, tallyOf, logIn, logOf, keptOf, goingOf, Tallied}
 use Rattle.imports.specs.declared.Tally.{Tally}
 use Rattle.imports.specs.declared.Import.{Import}
 

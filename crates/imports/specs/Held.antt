@@ -1,5 +1,5 @@
 -- How the code holds what is kept: numbers in structs, bytes in lent buffers.
-use Prim.Native.Nat.{ℕ, _+_, _*_, _≤_}
+use Prim.Native.Nat.{ℕ, _*_, _≤_}
 use mathlib.Core.Bool.{Bool, true, false, cond, _&&_}
 use mathlib.Core.List.{List}
 use mathlib.Core.Option.{Option, none, some}
@@ -14,7 +14,6 @@ use Rattle.imports.specs.declared.Start.the-variants.{None, At}
 use Rattle.imports.specs.declared.Tally.{Tally}
 use Rattle.imports.specs.declared.Import.{Import}
 use Rattle.imports.specs.declared.Stream.{Stream}
-use Rattle.imports.specs.declared.Told.{Told}
 use Rattle.imports.specs.declared.Outcome.{Outcome}
 use Rattle.imports.specs.declared.Outcome.the-variants.{Refused, RefusedAt, Lines}
 

@@ -551,7 +551,9 @@ pub fn finish(
     out: &mut [u8],
     log: &mut [u8; 70655],
 ) -> Outcome
-    ensures { λ r. ⌜ Finished (ended (length (now (out .entry))) ask answer (streamOf s (now (asked .entry)) (now (answered .entry)) (now (out .entry)) (now (log .entry)))) r (now (out .exit)) (now (log .exit)) ⌝ }
+    ensures { λ r. ⌜ Finished
+        (ended (length (now (out .entry))) ask answer (streamOf s (now (asked .entry)) (now (answered .entry)) (now (out .entry)) (now (log .entry)))) r
+        (now (out .exit)) (now (log .exit)) ⌝ }
 {
     let import = line_ends(s, ask, answer, asked, answered, out, log);
     let tally = import.tally;

@@ -1,9 +1,9 @@
 -- From what was read to what is written.
-use Prim.Native.Nat.{ℕ, _≤_}
+use Prim.Native.Nat.{ℕ}
 use native.Mathlib.Omega.{arith}
 use mathlib.Core.List.{List, [], _∷_, _++_}
-use mathlib.Core.Path.{_≡_, refl, sym, _∙_, ap, subst}
-use lib.ListN.{length, take}
+use mathlib.Core.Path.{_≡_, refl, _∙_, ap, subst}
+use lib.ListN.{take}
 use Rattle.rules.specs.Events.{plain, Entry, entries}
 use Rattle.rules.specs.Writing.{putEntries}
 use Rattle.rules.proofs.Writing.{writing}
@@ -15,7 +15,7 @@ use Rattle.importing.specs.Promises.{written, entriesFrom, repliesOf}
 use Rattle.importing.proofs.Imports.{imports}
 use Rattle.importing.proofs.Passes.{no-source}
 use Rattle.importing.proofs.Room.{suffices}
-use Rattle.captured.specs.Capture.{Captured, capture}
+use Rattle.captured.specs.Capture.{capture}
 use Rattle.imports.specs.Held.{writtenOf, Finished}
 use Rattle.imports.specs.declared.Outcome.{Outcome}
 use Rattle.imports.specs.declared.Outcome.the-variants.{Refused, RefusedAt, Lines}

@@ -2,7 +2,7 @@
 use Prim.Native.Nat.{ℕ}
 use mathlib.Core.List.{List, []}
 use mathlib.Core.Path.{_≡_}
-use lib.ListN.{length, take}
+use lib.ListN.{take}
 use Rattle.importing.specs.Import as import
 use Rattle.importing.specs.Import.{Imported, imported}
 use Rattle.importing.specs.Kept.{Stream, bytes}

@@ -1,7 +1,7 @@
 -- What `log2uds` writes, and what it takes for an identifier.
 use Prim.Native.Nat.{ℕ}
 use mathlib.Core.Bool.{cond}
-use mathlib.Core.List.{List, [], _∷_, _++_}
+use mathlib.Core.List.{List, [], _++_}
 use lib.Dec.{eqb}
 use Rattle.rules.specs.Events.{plain, entries}
 use Rattle.rules.specs.Lines.{ascii}

@@ -1,9 +1,7 @@
 -- `capture` meets its contract.
-use Prim.Native.Nat.{ℕ, _/_}
+use Prim.Native.Nat.{_/_}
 use native.Mathlib.Omega.{arith}
-use mathlib.Core.Bool.{true, false}
-use mathlib.Core.List.{List}
-use mathlib.Core.Option.{none, some}
+use mathlib.Core.Bool.{true}
 use mathlib.Core.Path.{_≡_, refl, sym, _∙_, ap}
 use lib.ListN.{length}
 use borrow.Author.Needs.{needs}
@@ -71,7 +69,8 @@ sound : (c : tie.Else1) → isCall (start (c .before) .args .call .now) ≡ true
 sound c = sym (c .before .is-call .ensures) ∙ not-false _ (c .if1 .left)
 
 -- The arguments are those of the call.
-arguments : (c : tie.After-read-area) → let x = start (c .before .before .before .before .before .before .before .before .before .before) .args in c .read-area .result .now ≡ argumentBytes (headerOf (x .call .now)) (x .call .now)
+arguments : (c : tie.After-read-area) → let x = start (c .before .before .before .before .before .before .before .before .before .before) .args in
+    c .read-area .result .now ≡ argumentBytes (headerOf (x .call .now)) (x .call .now)
 arguments c =
     let read = c .before .before .before .before .before .before .before .before in
     let x = start (read .before .before) .args in

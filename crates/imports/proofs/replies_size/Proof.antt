@@ -1,6 +1,5 @@
 -- `imports::replies_size` meets its contract.
 use borrow.Author.Needs.{needs}
-use Prim.Native.Nat.{min}
 use native.Mathlib.Omega.{arith}
 use lib.ListN.{length, drop, length-drop}
 use lib.Seq.{take-all}

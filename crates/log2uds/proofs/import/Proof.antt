@@ -1,6 +1,5 @@
 -- `log2uds::import` meets its contract, and ends: the measure is the number of turns that are left.
 use Prim.Native.Nat.{ℕ}
-use mathlib.Core.List.{List}
 use mathlib.Core.Path.{_≡_, refl, _∙_, subst}
 use lib.ListN.{length}
 use borrow.Author.Needs.{needs}

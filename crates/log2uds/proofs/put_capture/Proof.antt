@@ -1,7 +1,5 @@
 -- `log2uds::put_capture` meets its contract.
 use native.Mathlib.Omega.{arith}
-use mathlib.Core.List.{[]}
-use mathlib.Core.Path.{refl}
 use borrow.Author.Needs.{needs}
 use Rattle.rules.specs.Events.{plain, entries}
 use Rattle.rules.specs.Lines.{ascii}

@@ -2,12 +2,11 @@
 use Prim.Native.Nat.{ℕ, _+_, _*_, _<_, _≤_}
 use native.Mathlib.Omega.{arith}
 use mathlib.Core.Option.{none, some}
-use mathlib.Core.Path.{_≡_, refl, ap}
+use mathlib.Core.Path.{_≡_, ap}
 use borrow.Author.Needs.{needs}
 use borrow.Author.Tests.{le-leb, lt-leb}
-use Rattle.rules.specs.Events.{Form, eventSize}
+use Rattle.rules.specs.Events.{eventSize}
 use Rattle.rules.specs.Logs.{Header, headerSize, formIn}
-use Rattle.exchange.specs.Meaning.{formOf}
 use Rattle.logs.specs.Layout.{said}
 use Rattle.logs.proofs.Forms.{moved-little, few-bytes}
 use Rattle.mending.specs.Mend.{corrected}
