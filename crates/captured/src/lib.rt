@@ -52,7 +52,7 @@ pub fn is_call(call: &[u8]) -> bool
     h.events == 0
 }
 
-// "their address is CALL's listening address": all are of the one that answers.
+// All events are of the one that answers: each carries the address that the call listens to.
 fn sent_from(source: u16, event: Event) -> Event
     ensures { λ r. ⌜ entryOf r ≡ from source (entryOf event) ⌝ }
 {

@@ -22,8 +22,8 @@ pub record Ends (room ask answer : ℕ) (r : Outcome) (out log : List ℕ) : Typ
   pub text : List ℕ
   pub finished : Finished (written room (imported ask answer text)) r out log
 
--- `log2uds REQUEST REPLY`: there is a text, which was read; its lines, or its refusal, stand at the front of one buffer, and how many `dropped` lines
--- were left out, if any, at the front of the other.
+-- `log2uds REQUEST REPLY`: there is a text whose lines, or whose refusal, stand at the front of one buffer, and how many `dropped` lines were left
+-- out, if any, at the front of the other. (That it is the text on standard input, no contract can say: what a read gives is not known.)
 pub record Lines (ask answer n : ℕ) (out : List ℕ) (m : ℕ) (said : List ℕ) : Type 0 where
   pub text : List ℕ
   pub output : take n out ≡ shown (inFull (imported ask answer text))
