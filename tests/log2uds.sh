@@ -3,8 +3,9 @@
 
 captures=examples/captures
 
-# The program is built before it is tested.
+# The programs are built before they are tested.
 ./log2uds 7E0 7E8 <"$captures/count-with-a-wait.log" >/dev/null 2>&1 || return
+./udslog </dev/null >/dev/null 2>&1 || return
 
 # The captures, as the yards send them.
 import() { ./log2uds 7E0 7E8 <"$captures/$1.log"; }
@@ -35,6 +36,51 @@ many() { replies "$1" 1 | ./log2uds 7E0 7E8 | tail -n 1; }
 try "log2uds: 512 replies" 0 "reply 1000 02" "" many 512
 refused_many() { replies 513 1 | ./log2uds 7E0 7E8; }
 try "log2uds: 513 replies" 3 "refused 17" "" refused_many
+
+# With a call: a whole log, which `udslog` judges.
+for call in hoist-count hoist-count-addressed; do
+    scripts/hex-to-log <"examples/calls/$call.hex" >"$room/$call"
+done
+judge() { ./log2uds 7E0 7E8 "$room/$1" <"$captures/$2.log" | ./udslog; }
+shape() {
+    ./log2uds 7E0 7E8 "$room/$1" <"$captures/$2.log" | od -An -v -tx1 | tr -d ' \n'
+    echo
+}
+timing=000000320000138800000000
+try "log2uds: the hoist's count, judged" 0 "positive 520 2 1 03e8" "" judge hoist-count count-with-a-wait
+try "log2uds: in version 2, from the address listened to" 0 "positive 520 2 1 03e8" "" judge hoist-count-addressed count-with-a-wait
+try "log2uds: a capture of another request deviates" 0 "deviation 14 1 0 0562f190484f49535420445249564520303030303a" "" judge hoist-count a-long-record
+plain="000107032101000000000000002400020024000800380040${timing}00000014000000000003000002080000000300057f227862210103e8"
+try "log2uds: the log's bytes, version 1" 0 "$plain" "" shape hoist-count count-with-a-wait
+addressed="00020703210100000007e800000025000200250008003d0045${timing}0000001400000000000307e80000020800000003000507e87f227862210103e8"
+try "log2uds: the log's bytes, version 2" 0 "$addressed" "" shape hoist-count-addressed count-with-a-wait
+long_log() { # long_log COUNT: a request, and so many replies of 4,095 bytes
+    echo '(0.000000) c 7E0#0101'
+    for ((i = 0; i < $1; i++)); do
+        echo '(0.000000) c 7E8#1FFF010203040506'
+        for ((k = 1; k <= 585; k++)); do printf '(0.000000) c 7E8#2%X01020304050607\n' $((k % 16)); done
+    done
+}
+with_call() { ./log2uds 7E0 7E8 "$room/hoist-count" | wc -c; }
+longest() { long_log 15 | with_call; }
+too_long() { (long_log 16; echo '(0.000000) c 7E8#0101') | ./log2uds 7E0 7E8 "$room/hoist-count"; }
+try "log2uds: 15 replies of 4,095 bytes in a log" 0 "61611" "" longest
+try "log2uds: 16 of them and one byte more are lines, and no log" 3 "" "refused 17" too_long
+as_lines() { (long_log 16; echo '(0.000000) c 7E8#0101') | ./log2uds 7E0 7E8 | wc -l; }
+try "log2uds: the same as lines" 0 "18" "" as_lines
+refused_call() { printf 'x\n' | ./log2uds 7E0 7E8 "$room/hoist-count"; }
+try "log2uds: a refusal goes to standard error, and no log out" 3 "" "refused 14 1" refused_call
+none_found() { ./log2uds 7E0 7E8 "$room/hoist-count" </dev/null; }
+try "log2uds: no request, no log" 3 "" "refused 15" none_found
+scripts/hex-to-log <examples/01-hoist-count.hex >"$room/with-an-event"
+head -c 35 "$room/hoist-count" >"$room/cut"
+: >"$room/empty"
+for call in with-an-event cut empty no-such-file .; do
+    called() { ./log2uds 7E0 7E8 "$room/$call" </dev/null; }
+    try "log2uds: '$call' is no log without events" 2 "" "usage: log2uds" called
+done
+try "log2uds: '-' is a file like any other" 2 "" "usage: log2uds" ./log2uds 7E0 7E8 -
+try "log2uds: four words" 2 "" "usage: log2uds" ./log2uds 7E0 7E8 "$room/hoist-count" "$room/hoist-count"
 
 # Lines of any length, texts of any length, in pieces and without a last LF.
 spaces() { printf '(1.000000)%*s%s%*s7E0#0101' 100000 '' "$(head -c 100000 /dev/zero | tr '\0' n)" 100000 '' | ./log2uds 7E0 7E8; }
@@ -79,6 +125,6 @@ try "log2uds: closed output" 1 "" "output*Bad file descriptor" closed
 
 # Usage, and where it stands.
 help() { ./log2uds "$1" | sed -n '1p'; }
-try "log2uds: --help" 0 "usage: log2uds REQUEST REPLY < TEXT" "" help --help
+try "log2uds: --help" 0 "usage: log2uds REQUEST REPLY [CALL] < TEXT" "" help --help
 copied_log2uds() { cp log2uds "$room/" && "$room/log2uds" 7E0 7E8 </dev/null; }
 try "log2uds: a copy builds nothing elsewhere" 1 "" "no program to build" copied_log2uds

@@ -15,9 +15,10 @@ use Rattle.candump.proofs.Reading.{reads}
 use Rattle.importing.specs.Texts.{linesFrom}
 use Rattle.importing.specs.Import as import
 use Rattle.importing.specs.Import.{Item, request, reply, dropped, Known, Import, started, drops, gives, heard, next, within, walk, imported}
-use Rattle.importing.specs.Kept.{Tally, tally, fitsIn, replied, overflowed, noteDrop, noteReply, note, Kept, kept, Going, going, refusedAt, step, Stream, stream, readLine, byte, bytes, judged}
-use Rattle.importing.specs.Kept.{ended, start, lines, refused, Written}
+use Rattle.importing.specs.Kept.{Tally, tally, fitsIn, replied, overflowed, noteDrop, noteReply, note, log, Kept, kept, Going, going, refusedAt, step, Stream, stream}
+use Rattle.importing.specs.Kept.{byte, bytes, judged, ended, start, lines, refused, Written}
 use Rattle.importing.specs.Promises.{tell, tells, nothing, written, Imports}
+use Rattle.importing.proofs.Logged.{logs, logs-behind, given-logged, logs-all}
 use Rattle.importing.proofs.Overflows.{overflows}
 
 module _ (room ask answer : ℕ) where
@@ -65,7 +66,8 @@ module _ (room ask answer : ℕ) where
   startedWith s t = tally s (t .events) (t .bytes) (t .drops) (t .over) (t .text)
 
   abbrev keptOf : Known → Kept
-  keptOf k = kept (k .line) (k .time) (k .asking) (k .answering) (startedWith (k .start) (tells room nothing (k .told)))
+  keptOf k =
+      kept (k .line) (k .time) (k .asking) (k .answering) (startedWith (k .start) (tells room nothing (k .told))) (logs room nothing (log [] []) (k .told))
 
   abbrev goingOf : Import → Going
   goingOf (import.going k) = going (keptOf k)
@@ -111,9 +113,12 @@ module _ (room ask answer : ℕ) where
   same-step (import.going k) (other time) = in-order k time (import.passed k time) _ refl
   same-step (import.going k) (frame time id data′) =
       in-order k time (import.framed ask answer k time id data′) _
-      (ap (kept (next (k .line)) time (asks .state) (answers .state))
+      (ap₂ (kept (next (k .line)) time (asks .state) (answers .state))
       (noted (next (k .line)) time (asks .drops || answers .drops) (k .start) (asks .gives) (answers .gives) (tells room nothing (k .told))
-      ∙ ap (startedWith (started (k .start) time (asks .gives))) (sym (tells-behind nothing (k .told) _))))
+      ∙ ap (startedWith (started (k .start) time (asks .gives))) (sym (tells-behind nothing (k .told) _)))
+      (given-logged room (next (k .line)) time (asks .drops || answers .drops) (k .start) (asks .gives) (answers .gives) (startedWith (k .start) (tells room nothing (k .told)))
+      (tells room nothing (k .told)) (logs room nothing (log [] []) (k .told)) refl refl
+      ∙ sym (logs-behind room nothing (log [] []) (k .told) _)))
     where
       asks : Fed
       asks = heard (eqb id ask) (k .asking) data′
@@ -130,17 +135,21 @@ module _ (room ask answer : ℕ) where
   same-judged (import.refusedAt n line) = refl
   same-judged (import.going k) = go (k .start)
     where
-      by-limits : (b : Bool) → cond (not b) (refused 17) (lines (tells room nothing (k .told) .text) (tells room nothing (k .told) .drops - 4096)) ≡ written room (cond b (import.told (k .told)) (import.refused 17))
-      by-limits true = refl
-      by-limits false = refl
+      all : Written
+      all = let t = tells room nothing (k .told) in lines (t .text) (t .drops - 4096) (logs room nothing (log [] []) (k .told))
 
-      go : (s : Option ℕ) → judged (going (kept (k .line) (k .time) (k .asking) (k .answering) (startedWith s (tells room nothing (k .told))))) ≡
+      by-limits : (b : Bool) → within (k .told) ≡ b → cond (not b) (refused 17) all ≡ written room (cond b (import.told (k .told)) (import.refused 17))
+      by-limits true e = let t = tells room nothing (k .told) in ap (lines (t .text) (t .drops - 4096)) (logs-all room (k .told) e)
+      by-limits false e = refl
+
+      go : (s : Option ℕ) →
+          judged (going (kept (k .line) (k .time) (k .asking) (k .answering) (startedWith s (tells room nothing (k .told))) (logs room nothing (log [] []) (k .told)))) ≡
           written room (import.judged (import.going (record { line = k .line; time = k .time; asking = k .asking; answering = k .answering; start = s; told = k .told })))
       go none = refl
-      go (some t) = ap (λ (b : Bool). cond b (refused 17) (lines (tells room nothing (k .told) .text) (tells room nothing (k .told) .drops - 4096))) (overflows room (k .told)) ∙ by-limits (within (k .told))
+      go (some t) = ap (λ (b : Bool). cond b (refused 17) all) (overflows room (k .told)) ∙ by-limits (within (k .told)) refl
 
 pub imports : Imports
-unfolding imported reading.readOn tells
+unfolding imported reading.readOn tells logs
 imports room ask answer text =
     by-lines room ask answer (goingOf room ask answer import.begins) [] text
     ∙ ap judged (same-walk room ask answer import.begins (linesFrom [] text))

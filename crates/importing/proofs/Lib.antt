@@ -1,6 +1,9 @@
 -- What follows of the definitions.
+pub mod Logged
 pub mod Overflows
 pub mod Imports
 pub mod Rows
 pub mod Rises
 pub mod Passes
+pub mod Room
+pub mod Senders

@@ -1,14 +1,14 @@
 -- The events that come out always pass refusal 10.
 use Prim.Native.Nat.{ℕ, _+_, _-_, _*_, _/_, _%_, _≤_, _<_, min}
 use native.Mathlib.Omega.{arith}
-use native.Mathlib.Nat.{suc-mul}
+use native.Mathlib.Nat.{suc-mul, zero-add}
 use mathlib.Core.Bool.{Bool, true, false, cond, _&&_, _||_}
 use mathlib.Core.List.{List, [], _∷_, _++_}
 use mathlib.Core.Option.{Option, none, some}
 use mathlib.Core.Path.{_≡_, refl, sym, _∙_, ap, subst}
 use lib.Dec.{leb, ltb, eqb}
 use lib.ListN.{length, take, drop, length-append, length-take}
-use borrow.Author.Tests.{le-leb, lt-ltb, eq-eqb, leb-true, leb-false}
+use borrow.Author.Tests.{le-leb, lt-ltb, eq-eqb, ltb-true, leb-true, leb-false}
 use Rattle.rules.specs.Bytes.{two, four, every, isByte}
 use Rattle.rules.specs.Conversations.{Every}
 use Rattle.rules.specs.Events.{plain, Entry, entries, sound, rising, withinLimits}
@@ -21,9 +21,11 @@ use Rattle.isotp.specs.Joining as joining
 use Rattle.isotp.specs.Joining.{State, idle, under, Fed, fed, feed, busy, grown, goesOn, singles, firsts}
 use Rattle.candump.specs.Text.{Space, Digit, Hex, Printable, between, run, past, number, worth, pairs}
 use Rattle.candump.specs.Lines as lines
-use Rattle.candump.specs.Lines.{Line, blank, unreadable, other, frame, front, rest, isData, isRemote, isFd, classic, content, isIdentifier, identifier, identified, unnamed, named, timed, micros, seconds, opened, bare, read}
+use Rattle.candump.specs.Lines.{Line, blank, unreadable, other, frame, front, rest, isData, isRemote, isFd, classic}
+use Rattle.candump.specs.Lines.{content, isIdentifier, identifier, identified, unnamed, named, timed, micros, seconds, opened, bare, read}
 use Rattle.importing.specs.Texts.{linesFrom}
-use Rattle.importing.specs.Import.{Item, request, reply, dropped, Known, Import, going, refusedAt, begins, next, drops, gives, heard, framed, passed, inOrder, step, walk, count, size, early, within}
+use Rattle.importing.specs.Import.{Item, request, reply, dropped, Known, Import, going, refusedAt, begins, next, started}
+use Rattle.importing.specs.Import.{drops, gives, heard, framed, passed, inOrder, step, walk, count, size, early, within}
 use Rattle.importing.specs.Import.{Imported, refusedLine, refused, told, judged, imported}
 use Rattle.importing.specs.Promises.{rises, entriesFrom, repliesOf, Passes}
 use Rattle.importing.proofs.Rises.{never-fall, limited, toldIn}
@@ -172,33 +174,79 @@ heard-short : (mine : Bool) (s : State) (bs : List ℕ) → every isByte bs ≡ 
 heard-short true s bs h p = feed-short bs h s p
 heard-short false s bs h p = feed-short [] refl s p
 
--- So are those of what is told.
-abbrev Messages : List Item → Type 0
+-- So are those of what is told. Lines are numbered in 64 bits.
+abbrev Numbered : ℕ → Type 0
+Numbered n = n ≤ 0xffffffffffffffff
+
+abbrev pub Messages : List Item → Type 0
 Messages [] = Unit {0}
-Messages (request n m ∷ is) = Messages is
-Messages (dropped n ∷ is) = Messages is
+Messages (request n m ∷ is) = Numbered n × (Given (some m) × Messages is)
+Messages (dropped n ∷ is) = Numbered n × Messages is
 Messages (reply t m ∷ is) = Given (some m) × Messages is
 
 messages-behind : (a b : List Item) → Messages a → Messages b → Messages (a ++ b)
 messages-behind [] b p q = q
-messages-behind (request n m ∷ a) b p q = messages-behind a b p q
-messages-behind (dropped n ∷ a) b p q = messages-behind a b p q
+messages-behind (request n m ∷ a) b p q = (p .0, (p .1 .0, messages-behind a b (p .1 .1) q))
+messages-behind (dropped n ∷ a) b p q = (p .0, messages-behind a b (p .1) q)
 messages-behind (reply t m ∷ a) b p q = (p .0, messages-behind a b (p .1) q)
 
-line-messages : (d : Bool) (s : Option ℕ) (n time : ℕ) (asked answered : Option (List ℕ)) → Given answered → Messages (drops d n ++ gives s n time asked answered)
-line-messages true none n time none answered g = tt
-line-messages false none n time none answered g = tt
-line-messages true none n time (some m) answered g = tt
-line-messages false none n time (some m) answered g = tt
-line-messages true (some s) n time asked none g = tt
-line-messages false (some s) n time asked none g = tt
-line-messages true (some s) n time asked (some m) g = (g, tt)
-line-messages false (some s) n time asked (some m) g = (g, tt)
+numbered : (n : ℕ) → Numbered n → Numbered (next n)
+numbered n h = go (ltb n 0xffffffffffffffff) refl
+  where
+    go : (b : Bool) → ltb n 0xffffffffffffffff ≡ b → Numbered (cond b (n + 1) n)
+    go true e = omega (arith, ltb-true n 0xffffffffffffffff e)
+    go false e = h
+
+-- At most one request is told, and none before it is whole.
+abbrev pub requests : List Item → ℕ
+requests [] = 0
+requests (request n m ∷ is) = requests is + 1
+requests (dropped n ∷ is) = requests is
+requests (reply t m ∷ is) = requests is
+
+abbrev whole : Option ℕ → ℕ
+whole none = 0
+whole (some t) = 1
+
+requests-behind : (a b : List Item) → requests (a ++ b) ≡ requests a + requests b
+requests-behind [] b = sym (zero-add (requests b))
+requests-behind (request n m ∷ a) b = omega (arith, requests-behind a b)
+requests-behind (dropped n ∷ a) b = requests-behind a b
+requests-behind (reply t m ∷ a) b = requests-behind a b
+
+line-requests : (d : Bool) (s : Option ℕ) (n time : ℕ) (asked answered : Option (List ℕ)) →
+    whole s + requests (drops d n ++ gives s n time asked answered) ≡ whole (started s time asked)
+line-requests true none n time none answered = refl
+line-requests false none n time none answered = refl
+line-requests true none n time (some m) answered = refl
+line-requests false none n time (some m) answered = refl
+line-requests true (some s) n time asked none = refl
+line-requests false (some s) n time asked none = refl
+line-requests true (some s) n time asked (some m) = refl
+line-requests false (some s) n time asked (some m) = refl
+
+line-messages : (d : Bool) (s : Option ℕ) (n time : ℕ) (asked answered : Option (List ℕ)) → Numbered n → Given asked → Given answered →
+    Messages (drops d n ++ gives s n time asked answered)
+line-messages true none n time none answered h a b = (h, tt)
+line-messages false none n time none answered h a b = tt
+line-messages true none n time (some m) answered h a b = (h, (h, (a, tt)))
+line-messages false none n time (some m) answered h a b = (h, (a, tt))
+line-messages true (some s) n time asked none h a b = (h, tt)
+line-messages false (some s) n time asked none h a b = tt
+line-messages true (some s) n time asked (some m) h a b = (h, (b, tt))
+line-messages false (some s) n time asked (some m) h a b = (b, tt)
 
 record Fine (k : Known) : Type 0 where
   asking : Short (k .asking)
   answering : Short (k .answering)
   messages : Messages (k .told)
+  line : Numbered (k .line)
+  once : requests (k .told) ≡ whole (k .start)
+
+-- A line that tells nothing.
+quiet : (k : Known) (time : ℕ) → Fine k → Fine (passed k time)
+quiet k time p =
+    record { asking = p .asking; answering = p .answering; messages = p .messages; line = numbered (k .line) (p .line); once = p .once }
 
 abbrev Sound : Import → Type 0
 Sound (going k) = Fine k
@@ -214,9 +262,9 @@ in-order k time after f = go (ltb time (k .time))
 module _ (ask answer : ℕ) where
   one-line : (i : Import) (l : Line) → Small l → Sound i → Sound (step ask answer i l)
   one-line (refusedAt n line) l h p = tt
-  one-line (going k) blank h p = record { asking = p .asking; answering = p .answering; messages = p .messages }
+  one-line (going k) blank h p = quiet k (k .time) p
   one-line (going k) unreadable h p = tt
-  one-line (going k) (other time) h p = in-order k time (passed k time) (record { asking = p .asking; answering = p .answering; messages = p .messages })
+  one-line (going k) (other time) h p = in-order k time (passed k time) (quiet k time p)
   one-line (going k) (frame time id bytes) h p =
       let a = heard (eqb id ask) (k .asking) bytes in
       let b = heard (eqb id answer) (k .answering) bytes in
@@ -228,7 +276,13 @@ module _ (ask answer : ℕ) where
         answering = answers .state;
         messages =
             messages-behind (k .told) _ (p .messages)
-            (line-messages (a .drops || b .drops) (k .start) (next (k .line)) time (a .gives) (b .gives) (answers .gives));
+            (line-messages (a .drops || b .drops) (k .start) (next (k .line)) time (a .gives) (b .gives) (numbered (k .line) (p .line)) (asks .gives)
+            (answers .gives));
+        line = numbered (k .line) (p .line);
+        once =
+            requests-behind (k .told) _ ∙
+            ap (λ (n : ℕ). n + requests (drops (a .drops || b .drops) (next (k .line)) ++ gives (k .start) (next (k .line)) time (a .gives) (b .gives))) (p .once) ∙
+            line-requests (a .drops || b .drops) (k .start) (next (k .line)) time (a .gives) (b .gives);
       })
 
   all-lines : (i : Import) (ls : List (List ℕ)) → Sound i → Sound (walk ask answer i ls)
@@ -236,27 +290,45 @@ module _ (ask answer : ℕ) where
   all-lines i [] p = p
   all-lines i (l ∷ ls) p = all-lines (step ask answer i (read l)) ls (one-line i (read l) (read-small l .small) p)
 
-in-the-end : (i : Import) → Sound i → Messages (toldIn (judged i))
-in-the-end (refusedAt n line) p = tt
+pub record Good (is : List Item) : Type 0 where
+  pub messages : Messages is
+  pub once : requests is ≤ 1
+
+at-most-one : (s : Option ℕ) → whole s ≤ 1
+at-most-one none = omega arith
+at-most-one (some t) = omega arith
+
+nothing-told : Good []
+nothing-told = record { messages = tt; once = omega arith }
+
+in-the-end : (i : Import) → Sound i → Good (toldIn (judged i))
+in-the-end (refusedAt n line) p = nothing-told
 in-the-end (going k) p = go (k .start)
   where
-    by : (b : Bool) → Messages (toldIn (cond b (told (k .told)) (refused 17)))
-    by true = p .messages
-    by false = tt
+    by : (b : Bool) → Good (toldIn (cond b (told (k .told)) (refused 17)))
+    by true = record { messages = p .messages; once = omega (arith, p .once, at-most-one (k .start)) }
+    by false = nothing-told
 
     go : (s : Option ℕ) →
-        Messages (toldIn (judged (going (record { line = k .line; time = k .time; asking = k .asking; answering = k .answering; start = s; told = k .told }))))
-    go none = tt
+        Good (toldIn (judged (going (record { line = k .line; time = k .time; asking = k .asking; answering = k .answering; start = s; told = k .told }))))
+    go none = nothing-told
     go (some t) = by (within (k .told))
 
--- The entries of what is told.
-sayable : (at : ℕ) (is : List Item) → Every (λ (e : Entry). Sayable plain 0 (e .source)) (entriesFrom at is)
-sayable at [] = tt
-sayable at (request n m ∷ is) = sayable at is
-sayable at (dropped n ∷ is) = sayable at is
-sayable at (reply t m ∷ is) = (omega arith, sayable (at + length m) is)
+pub good : (ask answer : ℕ) (text : List ℕ) (is : List Item) → imported ask answer text ≡ told is → Good is
+unfolding imported
+good ask answer text is e =
+    let i = walk ask answer begins (linesFrom [] text) in
+    let begun : Sound begins = record { asking = tt; answering = tt; messages = tt; line = omega arith; once = refl } in
+    subst (λ (x : Imported). Good (toldIn x)) e (in-the-end i (all-lines ask answer begins (linesFrom [] text) begun))
 
-long : (at : ℕ) (is : List Item) → length (putEntries plain (entriesFrom at is)) ≡ count is * 10
+-- The entries of what is told.
+pub no-source : (at : ℕ) (is : List Item) → Every (λ (e : Entry). Sayable plain 0 (e .source)) (entriesFrom at is)
+no-source at [] = tt
+no-source at (request n m ∷ is) = no-source at is
+no-source at (dropped n ∷ is) = no-source at is
+no-source at (reply t m ∷ is) = (omega arith, no-source (at + length m) is)
+
+pub long : (at : ℕ) (is : List Item) → length (putEntries plain (entriesFrom at is)) ≡ count is * 10
 long at [] = refl
 long at (request n m ∷ is) = long at is
 long at (dropped n ∷ is) = long at is
@@ -276,8 +348,8 @@ replies-long (reply t m ∷ is) = length-append m (repliesOf is) ∙ ap (λ (k :
 
 replies-small : (is : List Item) → Messages is → every isByte (repliesOf is) ≡ true
 replies-small [] p = refl
-replies-small (request n m ∷ is) p = replies-small is p
-replies-small (dropped n ∷ is) p = replies-small is p
+replies-small (request n m ∷ is) p = replies-small is (p .1 .1)
+replies-small (dropped n ∷ is) p = replies-small is (p .1)
 replies-small (reply t m ∷ is) p = every-behind m (repliesOf is) (p .0 .1) (replies-small is (p .1))
 
 -- Each number of an entry has the room that a log gives it.
@@ -295,8 +367,8 @@ entry-small time at long a b c =
 
 entries-small : (at : ℕ) (is : List Item) → at + size is ≤ 65535 → Messages is → early is ≡ true → every isByte (putEntries plain (entriesFrom at is)) ≡ true
 entries-small at [] h p e = refl
-entries-small at (request n m ∷ is) h p e = entries-small at is h p e
-entries-small at (dropped n ∷ is) h p e = entries-small at is h p e
+entries-small at (request n m ∷ is) h p e = entries-small at is h (p .1 .1) e
+entries-small at (dropped n ∷ is) h p e = entries-small at is h (p .1) e
 entries-small at (reply t m ∷ is) h p e =
     let soon = both (leb t 4294967295) (early is) e in
     every-behind (putEntry plain (record { time = t; kind = 0; offset = at; size = length m; source = 0 })) (putEntries plain (entriesFrom (at + length m) is))
@@ -306,8 +378,8 @@ entries-small at (reply t m ∷ is) h p e =
 module _ (replies : List ℕ) (bytes : every isByte replies ≡ true) where
   sounds : (at : ℕ) (is : List Item) → at + size is ≤ length replies → Messages is → early is ≡ true → every (sound replies) (entriesFrom at is) ≡ true
   sounds at [] h p e = refl
-  sounds at (request n m ∷ is) h p e = sounds at is h p e
-  sounds at (dropped n ∷ is) h p e = sounds at is h p e
+  sounds at (request n m ∷ is) h p e = sounds at is h (p .1 .1) e
+  sounds at (dropped n ∷ is) h p e = sounds at is h (p .1) e
   sounds at (reply t m ∷ is) h p e =
       let soon = both (leb t 4294967295) (early is) e in
       rw (
@@ -326,7 +398,7 @@ pass is p r w =
     let whole = long 0 is in
     let rest : length (putEntries plain (entriesFrom 0 is)) % 10 ≡ 0 = omega arith in
     let most : length (putEntries plain (entriesFrom 0 is)) / 10 ≤ 512 = omega arith in
-    let back : entries plain (putEntries plain (entriesFrom 0 is)) ≡ entriesFrom 0 is = writing .entries-read plain (entriesFrom 0 is) (sayable 0 is) in
+    let back : entries plain (putEntries plain (entriesFrom 0 is)) ≡ entriesFrom 0 is = writing .entries-read plain (entriesFrom 0 is) (no-source 0 is) in
     rw (
       back,
       eq-eqb (length (putEntries plain (entriesFrom 0 is)) % 10) 0 rest,
@@ -336,11 +408,8 @@ pass is p r w =
     ) (sounds (repliesOf is) (replies-small is p) 0 is (omega (arith, replies-long is)) p soon)
 
 pub passes : Passes
-unfolding imported
 passes ask answer text is e =
-    let i = walk ask answer begins (linesFrom [] text) in
-    let messages = in-the-end i (all-lines ask answer begins (linesFrom [] text) (record { asking = tt; answering = tt; messages = tt })) in
-    let p = subst (λ (x : Imported). Messages (toldIn x)) e messages in
+    let p = good ask answer text is e .messages in
     let w = limited ask answer text is e in
     let all = both (leb (count is) 512 && early is) (leb (size is) 65535) w in
     let soon = both (leb (count is) 512) (early is) (all .0) .1 in

@@ -1,4 +1,4 @@
--- What is kept of a text while its lines come, in bounded memory: counts, and the lines to be written so far.
+-- What is kept of a text while its lines come, in bounded memory: counts, the lines to be written so far, and the events as a log has them.
 use Prim.Native.Nat.{ℕ, _+_, _-_, _/_}
 use mathlib.Core.Bool.{Bool, true, false, cond, not, _&&_, _||_}
 use mathlib.Core.List.{List, [], _∷_, _++_}
@@ -6,7 +6,9 @@ use mathlib.Core.Option.{Option, none, some}
 use mathlib.Core.Path.{_≡_}
 use lib.Dec.{leb, ltb, eqb}
 use lib.ListN.{length}
+use Rattle.rules.specs.Events.{plain, Entry}
 use Rattle.rules.specs.Lines.{ascii}
+use Rattle.rules.specs.Writing.{putEntry}
 use Rattle.text.specs.Written.{item}
 use Rattle.isotp.specs.Joining.{State, idle, Fed}
 use Rattle.candump.specs.Lines.{Line, blank, unreadable, other, frame}
@@ -26,7 +28,7 @@ pub record Tally : Type 0 where
 abbrev pub tally : Option ℕ → ℕ → ℕ → ℕ → Bool → List ℕ → Tally
 tally s e b d o t = record { start = s; events = e; bytes = b; drops = d; over = o; text = t }
 
--- A line that has no room is left out: `Room` says how much always suffices.
+-- A line that has no room is left out: `Promises.Suffices` says how much always suffices.
 abbrev pub append : ℕ → List ℕ → List ℕ → List ℕ
 append room text l = cond (leb (length text + length l) room) (text ++ l) text
 
@@ -60,6 +62,29 @@ noteGiven room (some s) n time asked (some m) t = noteReply room ((time - s) / 1
 unfoldable pub note : ℕ → ℕ → ℕ → Bool → Option (List ℕ) → Option (List ℕ) → Tally → Tally
 note room n time drops asked answered t = noteGiven room (t .start) n time asked answered (cond drops (noteDrop room n t) t)
 
+-- The events for a log, which are the replies that fit: as the bytes of events of version 1, and their replies one behind the other.
+pub record Log : Type 0 where
+  pub events : List ℕ
+  pub replies : List ℕ
+
+abbrev pub log : List ℕ → List ℕ → Log
+log es rs = record { events = es; replies = rs }
+
+-- A reply at this time, of so many bytes from an offset on.
+abbrev pub entry : ℕ → ℕ → ℕ → Entry
+entry ms at size = record { time = ms; kind = 0; offset = at; size = size; source = 0 }
+
+abbrev pub logged : ℕ → List ℕ → Tally → Log → Log
+logged ms m t l = log (l .events ++ putEntry plain (entry ms (t .bytes) (length m))) (l .replies ++ m)
+
+abbrev pub logReply : ℕ → List ℕ → Tally → Log → Log
+logReply ms m t l = cond (fitsIn (t .events) (t .bytes) ms (length m)) (logged ms m t l) l
+
+unfoldable pub logGiven : Option ℕ → ℕ → Option (List ℕ) → Tally → Log → Log
+logGiven none time answered t l = l
+logGiven (some s) time none t l = l
+logGiven (some s) time (some m) t l = logReply ((time - s) / 1000) m t l
+
 -- As `Known` and `Import` are, with what is kept for what was told.
 pub record Kept : Type 0 where
   pub line : ℕ
@@ -67,16 +92,17 @@ pub record Kept : Type 0 where
   pub asking : State
   pub answering : State
   pub tally : Tally
+  pub log : Log
 
 pub data Going : Type 0 where
   going : Kept → Going
   refusedAt : ℕ → ℕ → Going
 
-abbrev pub kept : ℕ → ℕ → State → State → Tally → Kept
-kept l time a b t = record { line = l; time = time; asking = a; answering = b; tally = t }
+abbrev pub kept : ℕ → ℕ → State → State → Tally → Log → Kept
+kept l time a b t g = record { line = l; time = time; asking = a; answering = b; tally = t; log = g }
 
 abbrev pub begins : Going
-begins = going (kept 0 0 idle idle (tally none 0 0 0 false []))
+begins = going (kept 0 0 idle idle (tally none 0 0 0 false []) (log [] []))
 
 abbrev pub framed : ℕ → ℕ → ℕ → Kept → ℕ → ℕ → List ℕ → Kept
 framed room ask answer k time id bytes =
@@ -84,9 +110,10 @@ framed room ask answer k time id bytes =
     let asks = heard (eqb id ask) (k .asking) bytes in
     let answers = heard (eqb id answer) (k .answering) bytes in
     kept n time (asks .state) (answers .state) (note room n time (asks .drops || answers .drops) (asks .gives) (answers .gives) (k .tally))
+    (logGiven (k .tally .start) time (answers .gives) (k .tally) (k .log))
 
 abbrev pub passed : Kept → ℕ → Kept
-passed k time = kept (next (k .line)) time (k .asking) (k .answering) (k .tally)
+passed k time = kept (next (k .line)) time (k .asking) (k .answering) (k .tally) (k .log)
 
 abbrev pub inOrder : Kept → ℕ → Kept → Going
 inOrder k time after = cond (ltb time (k .time)) (refusedAt 16 (next (k .line))) (going after)
@@ -124,8 +151,8 @@ bytes room ask answer s (c ∷ t) = bytes room ask answer (byte room ask answer 
 pub data Written : Type 0 where
   refusedLine : ℕ → ℕ → Written
   refused : ℕ → Written
-  -- The lines, and how many `dropped` lines are left out of them.
-  lines : List ℕ → ℕ → Written
+  -- The lines, how many `dropped` lines are left out of them, and the events for a log.
+  lines : List ℕ → ℕ → Log → Written
 
 abbrev pub judged : Going → Written
 judged (refusedAt n at) = refusedLine n at
@@ -133,7 +160,7 @@ judged (going k) = requested (k .tally .start)
   where
     requested : Option ℕ → Written
     requested none = refused 15
-    requested (some t) = cond (k .tally .over) (refused 17) (lines (k .tally .text) (k .tally .drops - 4096))
+    requested (some t) = cond (k .tally .over) (refused 17) (lines (k .tally .text) (k .tally .drops - 4096) (k .log))
 
 -- "Bytes after the last LF are a line unless there are none": one without bytes is blank, and blank lines tell nothing.
 unfoldable pub ended : ℕ → ℕ → ℕ → Stream → Written

@@ -4,3 +4,4 @@ pub mod Import
 pub mod Kept
 pub mod Promises
 pub mod Rows
+pub mod Senders

@@ -1,4 +1,5 @@
 -- Laws behind the proofs of `imports`.
 pub mod Noting
+pub mod Logging
 pub mod Stepping
 pub mod Unique

@@ -16,11 +16,12 @@ use Rattle.isotp.specs.declared.Heard.{Heard}
 use Rattle.isotp.specs.declared.Joiner.{Joiner}
 use Rattle.importing.specs.Import.{next, heard}
 use Rattle.importing.specs.Kept as kept
-use Rattle.importing.specs.Kept.{noteDrop, noteGiven, note, framed, Going, going, known, step, byte, bytes}
+use Rattle.importing.specs.Kept.{noteDrop, noteGiven, note, logGiven, framed, Going, going, known, step, byte, bytes}
 use Rattle.candump.specs.Lines.{Line}
 use Rattle.candump.specs.Reading.{lineOf}
 use Rattle.candump.specs.declared.Found.{Found}
-use Rattle.imports.specs.Held.{startOf, tallyOf, keptOf, goingOf, Tallied}
+use Rattle.imports.proofs.Logging.{counts, same-given}
+use Rattle.imports.specs.Held.{startOf, tallyOf, logIn, logOf, keptOf, goingOf, Tallied}
 use Rattle.imports.specs.declared.Tally.{Tally}
 use Rattle.imports.specs.declared.Import.{Import}
 
@@ -28,12 +29,14 @@ same-start : (b : Bool) (room n : ℕ) (t : kept.Tally) → cond b (noteDrop roo
 same-start true room n t = refl
 same-start false room n t = refl
 
-module _ (i : Import) (time id ask answer n : ℕ) (frame asked answered out mine other : List ℕ) (d : Bool) {asks answers : Heard}
+module _ (i : Import) (time id ask answer n : ℕ) (frame asked answered out log log′ mine other : List ℕ) (d : Bool) {asks answers : Heard}
     {asked′ answered′ out₁ out₂ : List ℕ} {noted given : Tally}
     (en : n ≡ next (i .line)) (em : mine ≡ cond (eqb id ask) frame []) (eo : other ≡ cond (eqb id answer) frame [])
     (a : Does (feed (stateOf (i .asking) asked) mine) asked asks asked′)
     (b : Does (feed (stateOf (i .answering) answered) other) answered answers answered′)
     (ed : d ≡ (asks .drops || answers .drops))
+    (l : logIn (noteGiven 0 (startOf (i .tally .start)) 0 time none (givenOf (answers .gives) answered′) (tallyOf (i .tally) [])) log′ ≡
+    logGiven (startOf (i .tally .start)) time (givenOf (answers .gives) answered′) (tallyOf (i .tally) []) (logOf (i .tally) log))
     (t : Tallied (cond d (noteDrop (length out) n (tallyOf (i .tally) out)) (tallyOf (i .tally) out)) out noted out₁)
     (g : Tallied (noteGiven (length out₁) (startOf (noted .start)) n time (givenOf (asks .gives) asked′) (givenOf (answers .gives) answered′) (tallyOf noted out₁))
     out₁ given out₂) where
@@ -49,9 +52,17 @@ module _ (i : Import) (time id ask answer n : ℕ) (frame asked answered out min
       ∙ ap (λ (x : Bool). noteGiven (length out) (startOf (i .tally .start)) n time (givenOf (asks .gives) asked′) (givenOf (answers .gives) answered′)
       (cond x (noteDrop (length out) n (tallyOf (i .tally) out)) (tallyOf (i .tally) out))) ed
 
+  logged : logOf given log′ ≡
+      logGiven (startOf (i .tally .start)) time (givenOf (answers .gives) answered′) (tallyOf (i .tally) out) (logOf (i .tally) log)
+  logged =
+      ap (λ (x : kept.Tally). logIn x log′) tallied
+      ∙ counts (i .tally) out log′ (length out) n time (asks .drops || answers .drops) (givenOf (asks .gives) asked′) (givenOf (answers .gives) answered′)
+      ∙ l
+      ∙ same-given (i .tally) out log (length out) n time (startOf (i .tally .start)) (givenOf (answers .gives) answered′) (logOf (i .tally) log)
+
   pub frame-heard :
-      kept.kept n time (stateOf (asks .joiner) asked′) (stateOf (answers .joiner) answered′) (tallyOf given out₂) ≡
-      framed (length out) ask answer (keptOf i asked answered out) time id frame
+      kept.kept n time (stateOf (asks .joiner) asked′) (stateOf (answers .joiner) answered′) (tallyOf given out₂) (logOf given log′) ≡
+      framed (length out) ask answer (keptOf i asked answered out log) time id frame
   frame-heard =
       let first : feed (stateOf (i .asking) asked) mine ≡ heard (eqb id ask) (stateOf (i .asking) asked) frame =
       ap (feed (stateOf (i .asking) asked)) em in
@@ -59,16 +70,16 @@ module _ (i : Import) (time id ask answer n : ℕ) (frame asked answered out min
       ap (feed (stateOf (i .answering) answered)) eo in
       let drops₁ : asks .drops ≡ feed (stateOf (i .asking) asked) mine .drops = ap (λ (h : Heard). h .drops) (a .answer) in
       let drops₂ : answers .drops ≡ feed (stateOf (i .answering) answered) other .drops = ap (λ (h : Heard). h .drops) (b .answer) in
-      ap (kept.kept n time (stateOf (asks .joiner) asked′) (stateOf (answers .joiner) answered′)) tallied
+      ap₂ (kept.kept n time (stateOf (asks .joiner) asked′) (stateOf (answers .joiner) answered′)) tallied logged
       ∙ rw (a .says, b .says, a .given, b .given, drops₁, drops₂, first, second, en)
 
 -- A line, where none was refused before it.
-module _ (room ask answer : ℕ) (i : Import) (asked answered out bytes : List ℕ) (f : Found) (none-yet : i .«refused» ≡ 0) where
-  pub by-line : {l : Line} {g : Going} → lineOf f bytes ≡ l → g ≡ known room ask answer (keptOf i asked answered out) l →
-      g ≡ step room ask answer (goingOf i asked answered out) (lineOf f bytes)
+module _ (room ask answer : ℕ) (i : Import) (asked answered out log bytes : List ℕ) (f : Found) (none-yet : i .«refused» ≡ 0) where
+  pub by-line : {l : Line} {g : Going} → lineOf f bytes ≡ l → g ≡ known room ask answer (keptOf i asked answered out log) l →
+      g ≡ step room ask answer (goingOf i asked answered out log) (lineOf f bytes)
   unfolding step
   by-line el eg =
-      let still : goingOf i asked answered out ≡ going (keptOf i asked answered out) = rw (eq-eqb (i .«refused») 0 none-yet) in
+      let still : goingOf i asked answered out log ≡ going (keptOf i asked answered out log) = rw (eq-eqb (i .«refused») 0 none-yet) in
       eg ∙ sym (ap₂ (step room ask answer) still el)
 
 -- One byte more of a text.

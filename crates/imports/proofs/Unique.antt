@@ -2,7 +2,7 @@
 use Prim.Native.Nat.{ℕ}
 use mathlib.Core.List.{List}
 use mathlib.Core.Path.{_≡_, refl, sym, _∙_, ap}
-use lib.ListN.{length, take}
+use lib.ListN.{length, take, drop}
 use lib.Seq.{length-take-le}
 use Rattle.importing.specs.Kept as kept
 use Rattle.importing.specs.Kept.{Written, refusedLine, refused, lines, bytes, ended}
@@ -12,8 +12,9 @@ use Rattle.imports.specs.declared.Outcome.{Outcome}
 use Rattle.imports.specs.declared.Outcome.the-variants.{Refused, RefusedAt, Lines}
 
 -- `begin`: whatever the buffers hold.
-pub begin-unique : (r q : Stream) → Begins r → Begins q → (asked answered out asked′ answered′ out′ : List ℕ) → streamOf r asked answered out ≡ streamOf q asked′ answered′ out′
-begin-unique r q k h asked answered out asked′ answered′ out′ = k asked answered out ∙ sym (h asked′ answered′ out′)
+pub begin-unique : (r q : Stream) → Begins r → Begins q → (asked answered out log asked′ answered′ out′ log′ : List ℕ) →
+    streamOf r asked answered out log ≡ streamOf q asked′ answered′ out′ log′
+begin-unique r q k h asked answered out log asked′ answered′ out′ log′ = k asked answered out log ∙ sym (h asked′ answered′ out′ log′)
 
 -- `read_on`: from two streams of one meaning, with the buffers that they have, two of one meaning.
 pub read-on-unique : (room ask answer : ℕ) (chunk : List ℕ) {x y before before′ : kept.Stream} → before ≡ before′ → x ≡ bytes room ask answer before chunk
@@ -24,15 +25,20 @@ read-on-unique room ask answer chunk e k h = k ∙ ap (λ (s : kept.Stream). byt
 abbrev outcomeFrom : Written → Outcome
 outcomeFrom (refusedLine n line) = RefusedAt n line
 outcomeFrom (refused n) = Refused n
-outcomeFrom (lines text left) = Lines (length text) left
+outcomeFrom (lines text left g) = Lines (record { lines = length text; «left_out» = left; events = length (g .events); replies = length (g .replies) })
 
-given-back : (r : Outcome) (out : List ℕ) → Inside r out → outcomeFrom (writtenOf r out) ≡ r
-given-back (Refused n) out h = refl
-given-back (RefusedAt n line) out h = refl
-given-back (Lines n left) out h = ap (λ (k : ℕ). Lines k left) (length-take-le n out h)
+given-back : (r : Outcome) (out log : List ℕ) → Inside r out log → outcomeFrom (writtenOf r out log) ≡ r
+given-back (Refused n) out log h = refl
+given-back (RefusedAt n line) out log h = refl
+given-back (Lines t) out log h =
+    let text = length-take-le (t .lines) out (h .0) in
+    let events = length-take-le (t .events) log (h .1 .0) in
+    let replies = length-take-le (t .replies) (drop 5120 log) (h .1 .1) in
+    λ i. Lines (record { lines = text i; «left_out» = t .«left_out»; events = events i; replies = replies i })
 
--- `finish`: the same outcome, and the same bytes at the front of the buffer.
-pub finish-unique : {x : Written} {r q : Outcome} {out out′ : List ℕ} → Finished x r out → Finished x q out′ → (r ≡ q) × (writtenOf r out ≡ writtenOf q out′)
-finish-unique {x} {r} {q} {out} {out′} k h =
+-- `finish`: the same outcome, and the same bytes in the buffers.
+pub finish-unique : {x : Written} {r q : Outcome} {out log out′ log′ : List ℕ} → Finished x r out log → Finished x q out′ log′ →
+    (r ≡ q) × (writtenOf r out log ≡ writtenOf q out′ log′)
+finish-unique {x} {r} {q} {out} {log} {out′} {log′} k h =
     let same = k .says ∙ sym (h .says) in
-    (sym (given-back r out (k .inside)) ∙ ap outcomeFrom same ∙ given-back q out′ (h .inside), same)
+    (sym (given-back r out log (k .inside)) ∙ ap outcomeFrom same ∙ given-back q out′ log′ (h .inside), same)

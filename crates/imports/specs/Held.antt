@@ -1,5 +1,5 @@
 -- How the code holds what is kept: numbers in structs, bytes in lent buffers.
-use Prim.Native.Nat.{ℕ, _+_, _≤_}
+use Prim.Native.Nat.{ℕ, _*_, _≤_}
 use mathlib.Core.Bool.{Bool, true, false, cond, _&&_}
 use mathlib.Core.List.{List}
 use mathlib.Core.Option.{Option, none, some}
@@ -32,31 +32,43 @@ pub record Tallied (want : kept.Tally) (before : List ℕ) (r : Tally) (after : 
   pub rest : drop (r .size) after ≡ drop (r .size) before
   pub room : length after ≡ length before
 
-abbrev pub keptOf : Import → List ℕ → List ℕ → List ℕ → kept.Kept
-keptOf i asked answered out = kept.kept (i .line) (i .time) (stateOf (i .asking) asked) (stateOf (i .answering) answered) (tallyOf (i .tally) out)
+-- The events for a log stand at the front of their buffer, as many as the tally says; their replies stand behind the places of 512.
+abbrev pub heldLog : ℕ → ℕ → List ℕ → kept.Log
+heldLog events replies l = kept.log (take events l) (take replies (drop 5120 l))
 
-abbrev pub goingOf : Import → List ℕ → List ℕ → List ℕ → Going
-goingOf i asked answered out = cond (eqb (i .«refused») 0) (going (keptOf i asked answered out)) (refusedAt (i .«refused») (i .line))
+abbrev pub logIn : kept.Tally → List ℕ → kept.Log
+logIn t l = heldLog (t .events * 10) (t .bytes) l
 
-abbrev pub streamOf : Stream → List ℕ → List ℕ → List ℕ → kept.Stream
-streamOf s asked answered out = kept.stream (s .reader) (goingOf (s .import) asked answered out)
+abbrev pub logOf : Tally → List ℕ → kept.Log
+logOf t l = heldLog (t .events * 10) (t .bytes) l
+
+abbrev pub keptOf : Import → List ℕ → List ℕ → List ℕ → List ℕ → kept.Kept
+keptOf i asked answered out log =
+    kept.kept (i .line) (i .time) (stateOf (i .asking) asked) (stateOf (i .answering) answered) (tallyOf (i .tally) out) (logOf (i .tally) log)
+
+abbrev pub goingOf : Import → List ℕ → List ℕ → List ℕ → List ℕ → Going
+goingOf i asked answered out log =
+    cond (eqb (i .«refused») 0) (going (keptOf i asked answered out log)) (refusedAt (i .«refused») (i .line))
+
+abbrev pub streamOf : Stream → List ℕ → List ℕ → List ℕ → List ℕ → kept.Stream
+streamOf s asked answered out log = kept.stream (s .reader) (goingOf (s .import) asked answered out log)
 
 -- Nothing is under way, and nothing kept, whatever the buffers hold.
 abbrev pub Begins : Stream → Type 0
-Begins s = (asked answered out : List ℕ) → streamOf s asked answered out ≡ kept.start
+Begins s = (asked answered out log : List ℕ) → streamOf s asked answered out log ≡ kept.start
 
-abbrev pub writtenOf : Outcome → List ℕ → Written
-writtenOf (Refused n) out = refused n
-writtenOf (RefusedAt n line) out = refusedLine n line
-writtenOf (Lines n left) out = lines (take n out) left
+abbrev pub writtenOf : Outcome → List ℕ → List ℕ → Written
+writtenOf (Refused n) out log = refused n
+writtenOf (RefusedAt n line) out log = refusedLine n line
+writtenOf (Lines t) out log = lines (take (t .lines) out) (t .«left_out») (heldLog (t .events) (t .replies) log)
 
--- The lines stand inside the buffer.
-abbrev pub Inside : Outcome → List ℕ → Type 0
-Inside (Refused n) out = Unit {0}
-Inside (RefusedAt n line) out = Unit {0}
-Inside (Lines n left) out = n ≤ length out
+-- The lines, the events and the replies stand inside their buffers.
+abbrev pub Inside : Outcome → List ℕ → List ℕ → Type 0
+Inside (Refused n) out log = Unit {0}
+Inside (RefusedAt n line) out log = Unit {0}
+Inside (Lines t) out log = (t .lines ≤ length out) × ((t .events ≤ length log) × (t .replies ≤ length (drop 5120 log)))
 
--- What is written, and that it stands inside the buffer: this determines the answer.
-pub record Finished (want : Written) (r : Outcome) (out : List ℕ) : Type 0 where
-  pub says : writtenOf r out ≡ want
-  pub inside : Inside r out
+-- What is written, and that it stands inside the buffers: this determines the answer.
+pub record Finished (want : Written) (r : Outcome) (out log : List ℕ) : Type 0 where
+  pub says : writtenOf r out log ≡ want
+  pub inside : Inside r out log

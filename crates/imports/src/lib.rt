@@ -1,21 +1,26 @@
 // Request Eight, "Import from candump": the lines of a text, byte by byte, in bounded memory. What is kept of them is `Kept` of `importing`.
 use candump::Found;
 use candump::Reader;
+use exchange::types::Event;
+use exchange::types::Form;
 use isotp::Gives;
 use isotp::Joiner;
 use isotp::feed;
+use logs::writer::put_event;
 use text::put_item;
+use wire::copy_into;
 use wire::part;
-ghost use Prim.Native.Nat.{_-_, _/_, _≤_, min};
+ghost use Prim.Native.Nat.{_*_, _-_, _/_, _≤_, min};
 ghost use mathlib.Core.Bool.{cond, _||_};
 ghost use mathlib.Core.List.{[]};
+ghost use mathlib.Core.Option.{none};
 ghost use mathlib.Core.Path.{_≡_};
-ghost use lib.ListN.{length};
+ghost use lib.ListN.{length, drop};
 ghost use Rattle.isotp.specs.Held.{givenOf};
 ghost use Rattle.candump.specs.Reading.{lineOf};
 ghost use Rattle.importing.specs.Import.{next};
-ghost use Rattle.importing.specs.Kept.{noteDrop, noteRequest, noteReply, noteGiven, fitsIn, framed, step, readLine, byte, bytes, ended};
-ghost use Rattle.imports.specs.Held.{startOf, tallyOf, keptOf, goingOf, streamOf, Begins, Tallied, Finished};
+ghost use Rattle.importing.specs.Kept.{noteDrop, noteRequest, noteReply, noteGiven, fitsIn, logReply, logGiven, framed, step, readLine, byte, bytes, ended};
+ghost use Rattle.imports.specs.Held.{startOf, tallyOf, logIn, logOf, keptOf, goingOf, streamOf, Begins, Tallied, Finished};
 
 // Of the lines at which a message was given up, so many are kept.
 const MOST_DROPS: u64 = 4096;
@@ -27,9 +32,14 @@ const LATEST: u64 = 4294967295;
 
 const MOST_BYTES: u64 = 65535;
 
-// A buffer of so many bytes has room for every line that is kept: one of a request, 8,220; 4,096 of 29 at which a message was given up; 512 replies
-// of 28, and twice their 65,535 bytes.
+// A buffer of so many bytes has room for every line that is kept (`importing/proofs/Room.suffices`): one of a request, 8,220; 4,096 of 29 at which a
+// message was given up; 512 replies of 28, and twice their 65,535 bytes.
 pub const ROOM: usize = 272410;
+
+// The events for a log stand at the front of a lent buffer, ten bytes each; behind 512 of them their replies.
+pub const REPLIES_AT: usize = 5120;
+
+pub const LOG_ROOM: usize = 70655;
 
 // The time of the request, once it is whole.
 pub enum Start {
@@ -58,12 +68,20 @@ pub struct Import {
     pub tally: Tally,
 }
 
-// What a text comes to: refusal 15 or 17; refusal 14 or 16 of a line; or how many bytes of lines stand at the front of the lent buffer, and how
-// many `dropped` lines are left out of them.
+// How many bytes of lines stand at the front of the buffer for lines, and how many `dropped` lines are left out of them; how many bytes of events
+// and of replies stand in the buffer for a log.
+pub struct Told {
+    pub lines: usize,
+    pub left_out: u64,
+    pub events: usize,
+    pub replies: usize,
+}
+
+// What a text comes to: refusal 15 or 17; refusal 14 or 16 of a line; or what is told.
 pub enum Outcome {
     Refused(u8),
     RefusedAt(u8, u64),
-    Lines(usize, u64),
+    Lines(Told),
 }
 
 // How far a text was read: the line under way, and the lines before it.
@@ -216,6 +234,40 @@ fn note_given(
     }
 }
 
+// A reply that fits, among the events for a log: its event behind those before it, and its bytes behind theirs.
+fn log_reply(t: Tally, ms: u64, message: &[u8], log: &mut [u8; 70655])
+    ensures { λ r. ⌜ logIn (noteReply 0 ms (now (message .entry)) (tallyOf t [])) (now (log .exit)) ≡
+        logReply ms (now (message .entry)) (tallyOf t []) (logOf t (now (log .entry))) ⌝ }
+{
+    if !fits(t, ms, message) {
+        return;
+    }
+    let event = Event {
+        time: ms as u32,
+        kind: 0,
+        offset: t.bytes as u16,
+        size: message.len() as u16,
+        source: 0,
+    };
+    put_event(log, t.events as usize * 10, Form::Plain, event);
+    copy_into(log, REPLIES_AT + t.bytes as usize, message);
+}
+
+// The same where a reply is given, behind the request.
+fn log_given(t: Tally, time: u64, answered: Gives, response: &[u8], log: &mut [u8; 70655])
+    ensures { λ r. ⌜ logIn (noteGiven 0 (startOf (t .start)) 0 time none (givenOf answered (now (response .entry))) (tallyOf t [])) (now (log .exit)) ≡
+        logGiven (startOf (t .start)) time (givenOf answered (now (response .entry))) (tallyOf t []) (logOf t (now (log .entry))) ⌝ }
+{
+    let start = t.start;
+    match start {
+        Start::None => {}
+        Start::At(s) => match answered {
+            Gives::Nothing => {}
+            Gives::Message(n) => log_reply(t, since(time, s), part(response, 0, n), log),
+        },
+    }
+}
+
 // Frames of another identifier say nothing, as a frame without data does.
 fn only<'a>(mine: bool, frame: &'a [u8]) -> &'a [u8]
     ensures { λ r. ⌜ now r ≡ cond mine (now (frame .entry)) [] ⌝ }
@@ -277,10 +329,11 @@ fn framed(
     asked: &mut [u8; 4095],
     answered: &mut [u8; 4095],
     out: &mut [u8],
+    log: &mut [u8; 70655],
 ) -> Import
     ensures { λ r. ⌜
-        (keptOf r (now (asked .exit)) (now (answered .exit)) (now (out .exit)) ≡ framed (length (now (out .entry))) ask answer
-        (keptOf i (now (asked .entry)) (now (answered .entry)) (now (out .entry))) time id (now (frame .entry))) ×
+        (keptOf r (now (asked .exit)) (now (answered .exit)) (now (out .exit)) (now (log .exit)) ≡ framed (length (now (out .entry))) ask answer
+        (keptOf i (now (asked .entry)) (now (answered .entry)) (now (out .entry)) (now (log .entry))) time id (now (frame .entry))) ×
         (r .«refused» ≡ 0) ⌝ }
 {
     let line = next(i.line);
@@ -293,6 +346,7 @@ fn framed(
     let answering = answers.joiner;
     let question = asks.gives;
     let response = answers.gives;
+    log_given(tally, time, response, answered, log);
     let noted = note_drop(tally, either(asks.drops, answers.drops), line, out);
     Import {
         refused: 0,
@@ -314,9 +368,10 @@ fn step(
     asked: &mut [u8; 4095],
     answered: &mut [u8; 4095],
     out: &mut [u8],
+    log: &mut [u8; 70655],
 ) -> Import
-    ensures { λ r. ⌜ goingOf r (now (asked .exit)) (now (answered .exit)) (now (out .exit)) ≡ step (length (now (out .entry))) ask
-        answer (goingOf i (now (asked .entry)) (now (answered .entry)) (now (out .entry)))
+    ensures { λ r. ⌜ goingOf r (now (asked .exit)) (now (answered .exit)) (now (out .exit)) (now (log .exit)) ≡ step (length (now (out .entry))) ask
+        answer (goingOf i (now (asked .entry)) (now (answered .entry)) (now (out .entry)) (now (log .entry)))
         (lineOf found (now (frame .entry))) ⌝ }
 {
     if i.refused != 0 {
@@ -345,6 +400,7 @@ fn step(
                 asked,
                 answered,
                 out,
+                log,
             )
         }
     }
@@ -385,9 +441,10 @@ fn line_ends(
     asked: &mut [u8; 4095],
     answered: &mut [u8; 4095],
     out: &mut [u8],
+    log: &mut [u8; 70655],
 ) -> Import
-    ensures { λ r. ⌜ goingOf r (now (asked .exit)) (now (answered .exit)) (now (out .exit)) ≡ step (length (now (out .entry))) ask
-        answer (goingOf (s .import) (now (asked .entry)) (now (answered .entry)) (now (out .entry))) (readLine (s .reader)) ⌝ }
+    ensures { λ r. ⌜ goingOf r (now (asked .exit)) (now (answered .exit)) (now (out .exit)) (now (log .exit)) ≡ step (length (now (out .entry))) ask
+        answer (goingOf (s .import) (now (asked .entry)) (now (answered .entry)) (now (out .entry)) (now (log .entry))) (readLine (s .reader)) ⌝ }
 {
     let reader = s.reader;
     let bytes = reader.bytes;
@@ -401,6 +458,7 @@ fn line_ends(
         asked,
         answered,
         out,
+        log,
     )
 }
 
@@ -412,12 +470,13 @@ fn byte(
     asked: &mut [u8; 4095],
     answered: &mut [u8; 4095],
     out: &mut [u8],
+    log: &mut [u8; 70655],
 ) -> Stream
-    ensures { λ r. ⌜ streamOf r (now (asked .exit)) (now (answered .exit)) (now (out .exit)) ≡ byte (length (now (out .entry))) ask
-        answer (streamOf s (now (asked .entry)) (now (answered .entry)) (now (out .entry))) c ⌝ }
+    ensures { λ r. ⌜ streamOf r (now (asked .exit)) (now (answered .exit)) (now (out .exit)) (now (log .exit)) ≡ byte (length (now (out .entry))) ask
+        answer (streamOf s (now (asked .entry)) (now (answered .entry)) (now (out .entry)) (now (log .entry))) c ⌝ }
 {
     if c == b'\n' {
-        let import = line_ends(s, ask, answer, asked, answered, out);
+        let import = line_ends(s, ask, answer, asked, answered, out, log);
         return Stream {
             reader: candump::begin(),
             import: import,
@@ -431,7 +490,8 @@ fn byte(
     }
 }
 
-// The next bytes of a text. Messages under way stand in `asked` and `answered`, the lines to be written at the front of `out`.
+// The next bytes of a text. Messages under way stand in `asked` and `answered`, the lines to be written at the front of `out`, the events for a
+// log and their replies in `log`.
 pub fn read_on(
     s: Stream,
     chunk: &[u8],
@@ -440,14 +500,15 @@ pub fn read_on(
     asked: &mut [u8; 4095],
     answered: &mut [u8; 4095],
     out: &mut [u8],
+    log: &mut [u8; 70655],
 ) -> Stream
-    ensures { λ r. ⌜ streamOf r (now (asked .exit)) (now (answered .exit)) (now (out .exit)) ≡ bytes (length (now (out .entry))) ask
-        answer (streamOf s (now (asked .entry)) (now (answered .entry)) (now (out .entry))) (now (chunk .entry)) ⌝ }
+    ensures { λ r. ⌜ streamOf r (now (asked .exit)) (now (answered .exit)) (now (out .exit)) (now (log .exit)) ≡ bytes (length (now (out .entry))) ask
+        answer (streamOf s (now (asked .entry)) (now (answered .entry)) (now (out .entry)) (now (log .entry))) (now (chunk .entry)) ⌝ }
 {
     let mut r = s;
     let mut i = 0;
     while i < chunk.len() {
-        r = byte(r, chunk[i], ask, answer, asked, answered, out);
+        r = byte(r, chunk[i], ask, answer, asked, answered, out, log);
         i += 1;
     }
     r
@@ -463,6 +524,23 @@ fn left_out(drops: u64) -> u64
     drops - MOST_DROPS
 }
 
+// So many events are so many bytes, up to the buffer's end.
+fn events_size(events: u64, log: &[u8]) -> usize
+    ensures { λ r. ⌜ r ≡ min (events * 10) (length (now (log .entry))) ⌝ }
+{
+    let most = log.len() / 10;
+    if events as usize > most {
+        return log.len();
+    }
+    events as usize * 10
+}
+
+fn replies_size(bytes: u64, log: &[u8]) -> usize
+    ensures { λ r. ⌜ r ≡ min bytes (length (drop 5120 (now (log .entry)))) ⌝ }
+{
+    inside(bytes as usize, part(log, REPLIES_AT, log.len()))
+}
+
 // The text ends here: "14 and 16 as the lines come, then 15, then 17".
 pub fn finish(
     s: Stream,
@@ -471,10 +549,13 @@ pub fn finish(
     asked: &mut [u8; 4095],
     answered: &mut [u8; 4095],
     out: &mut [u8],
+    log: &mut [u8; 70655],
 ) -> Outcome
-    ensures { λ r. ⌜ Finished (ended (length (now (out .entry))) ask answer (streamOf s (now (asked .entry)) (now (answered .entry)) (now (out .entry)))) r (now (out .exit)) ⌝ }
+    ensures { λ r. ⌜ Finished
+        (ended (length (now (out .entry))) ask answer (streamOf s (now (asked .entry)) (now (answered .entry)) (now (out .entry)) (now (log .entry)))) r
+        (now (out .exit)) (now (log .exit)) ⌝ }
 {
-    let import = line_ends(s, ask, answer, asked, answered, out);
+    let import = line_ends(s, ask, answer, asked, answered, out, log);
     let tally = import.tally;
     let start = tally.start;
     if import.refused != 0 {
@@ -486,7 +567,12 @@ pub fn finish(
             if tally.over {
                 return Outcome::Refused(17);
             }
-            Outcome::Lines(inside(tally.size, out), left_out(tally.drops))
+            Outcome::Lines(Told {
+                lines: inside(tally.size, out),
+                left_out: left_out(tally.drops),
+                events: events_size(tally.events, log),
+                replies: replies_size(tally.bytes, log),
+            })
         }
     }
 }

@@ -1,2 +1,4 @@
 -- Laws behind the proofs of `log2uds`.
 pub mod Words
+pub mod Runs
+pub mod Capturing

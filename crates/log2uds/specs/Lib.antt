@@ -1,2 +1,3 @@
 -- What the contracts of `log2uds` cite.
 pub mod Streams
+pub mod Runs

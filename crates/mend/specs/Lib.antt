@@ -1,2 +1,3 @@
 -- What the contract of `mend` cites besides `mending`.
 pub mod Answered
+pub mod Recounted

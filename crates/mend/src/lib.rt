@@ -24,6 +24,7 @@ ghost use Rattle.exchange.specs.Meaning.{formOf, entryOf};
 ghost use Rattle.logs.specs.Layout.{said};
 ghost use Rattle.mending.specs.Mend.{argumentsIn, eventsIn, leftIn, goesOn, run, corrected, mendedHeader, keptBytes, mendedLog, headed, argued};
 ghost use Rattle.mend.specs.Answered.{Mends};
+ghost use Rattle.mend.specs.Recounted.{headerOf, recounted};
 
 // "bytes past 65,535 are not read"
 const MOST_READ: usize = 65535;
@@ -138,6 +139,29 @@ fn corrected(h: Header, events: usize, replies: usize) -> Header
         star: h.star,
         overall: h.overall,
     }
+}
+
+// The header of a log with so many events and reply bytes; or the log would be longer than a total can say.
+pub enum Recounted {
+    Header(Header),
+    TooLong,
+}
+
+pub fn recount(h: Header, events: usize, replies: usize) -> Recounted
+    ensures { λ r. ⌜ headerOf r ≡ recounted (said h) events replies ⌝ }
+{
+    if events > MOST_READ {
+        return Recounted::TooLong;
+    }
+    if replies > MOST_READ {
+        return Recounted::TooLong;
+    }
+    let size = event_size(form_in(h));
+    let arguments = h.arguments as usize;
+    if header_size(h) + arguments + events * size + replies > MOST_READ {
+        return Recounted::TooLong;
+    }
+    Recounted::Header(corrected(h, events, replies))
 }
 
 // Puts the first n events into `out` at index `at`. Where they do not fit, nothing changes and the answer is false.

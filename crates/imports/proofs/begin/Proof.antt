@@ -10,7 +10,7 @@ begin-requires : tie.Need-begin-requires
 begin-requires c κs = search needs
 
 returns : tie.Need-returns
-returns c = λ asked answered out. rw (c .before .idle .ensures, c .begin .ensures)
+returns c = λ asked answered out log. rw (c .before .idle .ensures, c .begin .ensures)
 
 pub begin-spec : {M : Type 1} → statement M
 begin-spec = tie.close (tie.spec idle-requires begin-requires returns)

@@ -20,7 +20,7 @@ returns : tie.Need-returns
 unfolding byte
 returns c =
     let at-line-ends = c .before .before .before in
-    let at-if1 = at-line-ends .before .before .before .before in
+    let at-if1 = at-line-ends .before .before .before .before .before in
     let start = at-if1 .before .before in
     rw (eq-eqb (start .args .c) 10 (at-if1 .if1 .taken), (c .begin .ensures)) (ap (stream begun) (at-line-ends .line-ends .ensures))
 

@@ -51,6 +51,12 @@ inside-requires c κs = search needs
 left-out-requires : tie.Need-left-out-requires
 left-out-requires c κs = search needs
 
+events-size-requires : tie.Need-events-size-requires
+events-size-requires c κs = search needs
+
+replies-size-requires : tie.Need-replies-size-requires
+replies-size-requires c κs = search needs
+
 same-length-3 : tie.Need-same-length-3
 same-length-3 c = search needs
 
@@ -70,7 +76,9 @@ same-length-4 c = search needs
 returns-4 : tie.Need-returns-4
 unfolding ended
 returns-4 c =
-    let at-inside = c .before in
+    let at-events = c .before .before .before in
+    let at-left-out = at-events .before .before .before in
+    let at-inside = at-left-out .before in
     let at-if2 = at-inside .before .before in
     let at-enum-told2 = at-if2 .before in
     let at-if1 = at-enum-told2 .before .before in
@@ -78,15 +86,21 @@ returns-4 c =
     record {
       says =
           rw (
-            (c .left-out .ensures),
+            (c .replies-size .ensures),
+            (at-events .events-size .ensures),
+            (at-left-out .left-out .ensures),
             (at-inside .inside .ensures),
+            take-inside,
+            take-inside,
             take-inside,
             ← (at-line-ends .line-ends .ensures),
             eq-eqb (at-line-ends .line-ends .result .«refused») 0 (at-if1 .if1 .left),
             (at-enum-told2 .enum-told2 .given .1),
             (at-if2 .if2 .left),
           );
-      inside = rw (at-inside .inside .ensures) (omega arith);
+      inside =
+          rw (at-inside .inside .ensures, at-events .events-size .ensures, c .replies-size .ensures)
+          (omega arith, (omega arith, omega arith));
     }
 
 pub finish-spec : {M : Type 1} → statement M
@@ -102,6 +116,8 @@ finish-spec =
     returns-2
     inside-requires
     left-out-requires
+    events-size-requires
+    replies-size-requires
     same-length-3
     returns-3
     same-length-4

@@ -18,7 +18,7 @@ same-length c = search needs
 returns : tie.Need-returns
 returns c =
     let at-step = c .before .before in
-    let at-ended = at-step .before .before .before .before .before in
+    let at-ended = at-step .before .before .before .before .before .before in
     rw (← (at-ended .ended .ensures)) (at-step .step .ensures)
 
 pub line-ends-spec : {M : Type 1} → statement M

@@ -12,10 +12,12 @@ use Prim.Native.Nat.{ℕ, _-_, _≤_}
 use Rattle.imports.proofs.read_on.Tie as tie
 
 abbrev Inv-loop : tie.InvT-loop
-Inv-loop chunk ask answer asked₀ answered₀ out₀ r₀ i₀ asked answered out r i = (i ≤ length chunk) × ((streamOf r asked answered out ≡ bytes (length out₀) ask answer (streamOf r₀ asked₀ answered₀ out₀) (take i chunk)) × (length out ≡ length out₀))
+Inv-loop chunk ask answer asked₀ answered₀ out₀ log₀ r₀ i₀ asked answered out log r i =
+    (i ≤ length chunk) ×
+    ((streamOf r asked answered out log ≡ bytes (length out₀) ask answer (streamOf r₀ asked₀ answered₀ out₀ log₀) (take i chunk)) × (length out ≡ length out₀))
 
 abbrev μ-loop : tie.MeasureT-loop
-μ-loop chunk ask answer asked₀ answered₀ out₀ r₀ i₀ asked answered out r i = length chunk - i
+μ-loop chunk ask answer asked₀ answered₀ out₀ log₀ r₀ i₀ asked answered out log r i = length chunk - i
 
 loop-holds : tie.Need-loop-holds Inv-loop μ-loop
 loop-holds c =
@@ -37,16 +39,16 @@ loop-less c = omega arith
 loop-again : tie.Need-loop-again Inv-loop μ-loop
 loop-again c =
     let at-byte = c .before .before in
-    let at-loop-test = at-byte .before .before .before .before .before in
+    let at-loop-test = at-byte .before .before .before .before .before .before in
     let at-loop = at-loop-test .before in
     let start = at-loop .before .before .before in
     let inv = (at-loop .loop .inv) in
-    let begun = streamOf (start .args .s) (start .args .asked .now) (start .args .answered .now) (start .args .out .now) in (
+    let begun = streamOf (start .args .s) (start .args .asked .now) (start .args .answered .now) (start .args .out .now) (start .args .log .now) in (
       omega arith,
       (
         (at-byte .byte .ensures)
             ∙ ap (λ (n : ℕ). byte n (start .args .ask) (start .args .answer)
-            (streamOf (at-loop .loop .r) (at-loop .loop .asked) (at-loop .loop .answered) (at-loop .loop .out))
+            (streamOf (at-loop .loop .r) (at-loop .loop .asked) (at-loop .loop .answered) (at-loop .loop .out) (at-loop .loop .log))
             (getD (start .args .chunk .now) (at-loop .loop .i) 0)) (inv .1 .1)
             ∙ ap (λ (x : Stream). byte (length (start .args .out .now)) (start .args .ask) (start .args .answer) x
             (getD (start .args .chunk .now) (at-loop .loop .i) 0)) (inv .1 .0)
@@ -67,7 +69,7 @@ returns c =
     let start = at-loop .before .before .before in
     let inv = (at-loop .loop .inv) in
     inv .1 .0 ∙ ap (bytes (length (start .args .out .now)) (start .args .ask) (start .args .answer)
-    (streamOf (start .args .s) (start .args .asked .now) (start .args .answered .now) (start .args .out .now)))
+    (streamOf (start .args .s) (start .args .asked .now) (start .args .answered .now) (start .args .out .now) (start .args .log .now)))
     (take-all (at-loop .loop .i) (start .args .chunk .now) (omega (arith, (c .loop-test .left))))
 
 pub read-on-spec : {M : Type 1} → statement M

@@ -45,7 +45,7 @@ returns-2 c =
     let at-if1 = at-found .before .before in
     let start = at-if1 .before .before .before .before in
     by-line (length (start .args .out .now)) (start .args .ask) (start .args .answer) (start .args .i) (start .args .asked .now)
-    (start .args .answered .now) (start .args .out .now) (start .args .frame .now) (start .args .found) (at-if1 .if1 .left)
+    (start .args .answered .now) (start .args .out .now) (start .args .log .now) (start .args .frame .now) (start .args .found) (at-if1 .if1 .left)
     (ap (λ (f : Found). lineOf f (start .args .frame .now)) (at-found .found .given .1))
     (rw ((c .stopped2 .ensures), lt-ltb (at-found .found .given .0 .0) (start .args .i .time) (at-if2 .if2 .taken)))
 
@@ -65,7 +65,7 @@ returns-3 c =
     let at-if1 = at-found2 .before .before in
     let start = at-if1 .before .before .before .before in
     by-line (length (start .args .out .now)) (start .args .ask) (start .args .answer) (start .args .i) (start .args .asked .now)
-    (start .args .answered .now) (start .args .out .now) (start .args .frame .now) (start .args .found) (at-if1 .if1 .left)
+    (start .args .answered .now) (start .args .out .now) (start .args .log .now) (start .args .frame .now) (start .args .found) (at-if1 .if1 .left)
     (ap (λ (f : Found). lineOf f (start .args .frame .now)) (at-found2 .found2 .given .1))
     (rw ((c .stopped3 .ensures), lt-ltb (at-found2 .found2 .given .0 .0) (start .args .i .time) (at-if3 .if3 .taken)))
 
@@ -84,7 +84,7 @@ returns-4 c =
     let at-if1 = at-enum-told .before .before in
     let start = at-if1 .before .before .before .before in
     by-line (length (start .args .out .now)) (start .args .ask) (start .args .answer) (start .args .i) (start .args .asked .now)
-    (start .args .answered .now) (start .args .out .now) (start .args .frame .now) (start .args .found) (at-if1 .if1 .left)
+    (start .args .answered .now) (start .args .out .now) (start .args .log .now) (start .args .frame .now) (start .args .found) (at-if1 .if1 .left)
     (ap (λ (f : Found). lineOf f (start .args .frame .now)) (at-enum-told .enum-told .given .1)) (rw ((c .passed .ensures)))
 
 returns-5 : tie.Need-returns-5
@@ -93,7 +93,7 @@ returns-5 c =
     let at-if1 = at-enum-told2 .before .before in
     let start = at-if1 .before .before .before .before in
     by-line (length (start .args .out .now)) (start .args .ask) (start .args .answer) (start .args .i) (start .args .asked .now)
-    (start .args .answered .now) (start .args .out .now) (start .args .frame .now) (start .args .found) (at-if1 .if1 .left)
+    (start .args .answered .now) (start .args .out .now) (start .args .log .now) (start .args .frame .now) (start .args .found) (at-if1 .if1 .left)
     (ap (λ (f : Found). lineOf f (start .args .frame .now)) (at-enum-told2 .enum-told2 .given .1)) (rw ((c .stopped .ensures)))
 
 returns-6 : tie.Need-returns-6
@@ -103,7 +103,7 @@ returns-6 c =
     let at-if1 = at-found .before .before in
     let start = at-if1 .before .before .before .before in
     by-line (length (start .args .out .now)) (start .args .ask) (start .args .answer) (start .args .i) (start .args .asked .now)
-    (start .args .answered .now) (start .args .out .now) (start .args .frame .now) (start .args .found) (at-if1 .if1 .left)
+    (start .args .answered .now) (start .args .out .now) (start .args .log .now) (start .args .frame .now) (start .args .found) (at-if1 .if1 .left)
     (ap (λ (f : Found). lineOf f (start .args .frame .now)) (at-found .found .given .1))
     (rw ((c .passed2 .ensures), le-ltb (at-found .found .given .0 .0) (start .args .i .time) (at-if2 .if2 .left)))
 
@@ -113,13 +113,13 @@ same-length c = search needs
 returns-7 : tie.Need-returns-7
 returns-7 c =
     let at-framed = c .before .before in
-    let at-part = at-framed .before .before .before .before in
+    let at-part = at-framed .before .before .before .before .before in
     let at-if3 = at-part .before in
     let at-found2 = at-if3 .before .before .before in
     let at-if1 = at-found2 .before .before in
     let start = at-if1 .before .before .before .before in
     by-line (length (start .args .out .now)) (start .args .ask) (start .args .answer) (start .args .i) (start .args .asked .now)
-    (start .args .answered .now) (start .args .out .now) (start .args .frame .now) (start .args .found) (at-if1 .if1 .left)
+    (start .args .answered .now) (start .args .out .now) (start .args .log .now) (start .args .frame .now) (start .args .found) (at-if1 .if1 .left)
     (ap (λ (f : Found). lineOf f (start .args .frame .now)) (at-found2 .found2 .given .1))
     (rw (
       le-ltb (at-found2 .found2 .given .0 .0) (start .args .i .time) (at-if3 .if3 .left),
@@ -128,7 +128,7 @@ returns-7 c =
     )
     (ap going ((at-framed .framed .ensures .0) ∙ ap
     (framed (length (start .args .out .now)) (start .args .ask) (start .args .answer)
-    (keptOf (start .args .i) (start .args .asked .now) (start .args .answered .now) (start .args .out .now))
+    (keptOf (start .args .i) (start .args .asked .now) (start .args .answered .now) (start .args .out .now) (start .args .log .now))
     (at-found2 .found2 .given .0 .0) (at-found2 .found2 .given .0 .1 .0)) (at-part .part .ensures))))
 
 pub step-spec : {M : Type 1} → statement M

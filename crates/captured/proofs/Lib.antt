@@ -1,0 +1,4 @@
+-- Laws behind the proofs of `captured`.
+pub mod NotTen
+pub mod Written
+pub mod Putting
