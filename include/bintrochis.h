@@ -7,8 +7,8 @@
  * undefined, as long as each pointer has as many bytes behind it as its length says and what is written to overlaps nothing else. A
  * pointer with length 0 may be null; null with another length is misuse.
  *
- * The functions named bintrochis_door_.. are proved, in `crates/host`; `crates/host/specs` has the definitions that they equal. What this
- * header adds has no proof: structs in place of their arguments, inline, some 150 lines to read from "What the structs become" on.
+ * The functions named bintrochis_door_.. are proved, in `crates/host` and the crates `.._door`; their `specs` have the definitions that they
+ * equal. What this header adds has no proof: structs in place of their arguments, inline, some 150 lines to read from "What the structs become" on.
  * The names of negative codes, for display, are in bintrochis_codes.h. */
 #ifndef BINTROCHIS_H
 #define BINTROCHIS_H

@@ -1,27 +1,27 @@
 # shellcheck shell=bash disable=SC2154,SC2016
-# scripts/native-lib: that it builds only where something changed. `scripts/shell-tests native-lib` runs this, in a small repository with stand-ins
-# for rt, which notes each call, for cc and for uname.
+# scripts/native-lib: that it builds only where something changed, and each crate of the door. `scripts/shell-tests native-lib` runs this, in a small repository
+# with stand-ins for rt, which notes each crate of the door once, for the kit's llvm-ar, for cc and for uname.
 
 library="$room/a library"
 stand_ins=$room/native-tools
 builds=$room/builds
-mkdir -p "$library/scripts" "$library"/crates/{rules,host,door,other}/{src,must-fail} "$stand_ins" "$room/kit/docs"
+mkdir -p "$library/scripts" "$library"/crates/{rules,host,alfid_door,line_door,step_door,begin_door,begin_alfid_door,door,other}/{src,must-fail} "$stand_ins" "$room/kit/docs" "$room/kit/on/x86_64/toolchain/bin"
 cp scripts/native-lib "$library/scripts/"
-touch "$library"/crates/{rules,host,door,other}/src/lib.rt
+touch "$library"/crates/{rules,host,alfid_door,line_door,step_door,begin_door,begin_alfid_door,door,other}/src/lib.rt
 echo 'kit 1' >"$room/kit/KIT-ID"
-printf '%s\n' '# the crates' 'host: rules # and no other' 'door: rules' 'rules:' 'other: rules' >"$library/crates.txt"
+printf '%s\n' '# the crates' 'host: rules # and no other' 'alfid_door: host' 'line_door: rules' 'step_door: host' 'begin_door: step_door' 'begin_alfid_door: step_door' 'door: rules' 'rules:' 'other: rules' >"$library/crates.txt"
 cat >"$stand_ins/rt" <<SCRIPT
 #!/bin/sh
 case \$1 in
 doc) echo "$room/kit/docs/START-HERE.md" ;;
 staticlib)
-    echo "\$2" >>"$builds"
+    case \$2 in host | door) echo "\$2" >>"$builds" ;; esac
     if [ -e broken ]; then
         echo "rt: \$2 NOT PROVED"
         exit 1
     fi
     mkdir -p target/staticlib
-    echo "build \$(wc -l <"$builds")" >"target/staticlib/lib\$2.a"
+    echo "\$2 \$(wc -l <"$builds")" >"target/staticlib/lib\$2.a"
     ;;
 esac
 SCRIPT
@@ -33,26 +33,27 @@ while [ \$# -gt 0 ]; do
     shift
 done
 SCRIPT
-chmod +x "$stand_ins/rt" "$stand_ins/uname" "$stand_ins/cc"
+printf '#!/bin/sh\narchive=$2\nshift 2\ncat "$@" >"$archive"\n' >"$room/kit/on/x86_64/toolchain/bin/llvm-ar"
+chmod +x "$stand_ins/rt" "$stand_ins/uname" "$stand_ins/cc" "$room/kit/on/x86_64/toolchain/bin/llvm-ar"
 
 native() { PATH=$stand_ins:$PATH "$library/scripts/native-lib" "$@"; }
 archive() { native "$@" && (cd "$library" && cat "$(native "$@")"); }
 native_after() { (cd "$library" && eval "$1") && archive "${@:2}"; } # native_after COMMAND [CRATE]: a run after that
-host=target/native/libbintrochis.a
+built() { echo "target/native/libbintrochis.a" && printf "%s $1\\n" host alfid_door line_door step_door begin_door begin_alfid_door; } # built N: what `archive` prints of the door's N-th build
 other=target/native/libdoor.a
-try "native-lib: the first run builds" 0 "$host"$'\n'"build 1" "" archive
-try "native-lib: the second builds nothing" 0 "$host"$'\n'"build 1" "" archive
+try "native-lib: the first run builds" 0 "$(built 1)" "" archive
+try "native-lib: the second builds nothing" 0 "$(built 1)" "" archive
 try "native-lib: the library beside the archive" 0 "shared 1" "" cat "$library/target/native/libbintrochis.so"
-try "native-lib: another library has an archive of its own" 0 "$other"$'\n'"build 2" "" archive door
-try "native-lib: a changed source" 0 "$host"$'\n'"build 3" "" native_after 'echo 1 >>crates/rules/src/lib.rt'
-try "native-lib: a changed source with an old date" 0 "$host"$'\n'"build 4" "" native_after 'echo 2 >>crates/host/src/lib.rt && touch -d 2001-01-01 crates/host/src/lib.rt'
-try "native-lib: a source that it does not stand on" 0 "$host"$'\n'"build 4" "" native_after 'echo 3 >>crates/other/src/lib.rt'
-try "native-lib: a must-fail edit is no source" 0 "$host"$'\n'"build 4" "" native_after 'echo 4 >>crates/rules/must-fail/one.edit'
-try "native-lib: a new source" 0 "$host"$'\n'"build 5" "" native_after 'echo 5 >crates/rules/src/more.rt'
-try "native-lib: a source that is gone" 0 "$host"$'\n'"build 6" "" native_after 'rm crates/rules/src/more.rt'
-try "native-lib: a missing archive" 0 "$host"$'\n'"build 7" "" native_after 'rm target/native/libbintrochis.a'
-try "native-lib: a changed archive" 0 "$host"$'\n'"build 8" "" native_after 'echo 6 >>target/native/libbintrochis.a'
-try "native-lib: a missing library" 0 "$host"$'\n'"build 9" "" native_after 'rm target/native/libbintrochis.so'
-try "native-lib: another kit" 0 "$host"$'\n'"build 10" "" native_after "echo 'kit 2' >'$room/kit/KIT-ID'"
+try "native-lib: another library has an archive of its own" 0 "$other"$'\n'"door 2" "" archive door
+try "native-lib: a changed source" 0 "$(built 3)" "" native_after 'echo 1 >>crates/rules/src/lib.rt'
+try "native-lib: a changed source with an old date" 0 "$(built 4)" "" native_after 'echo 2 >>crates/host/src/lib.rt && touch -d 2001-01-01 crates/host/src/lib.rt'
+try "native-lib: a source that it does not stand on" 0 "$(built 4)" "" native_after 'echo 3 >>crates/other/src/lib.rt'
+try "native-lib: a must-fail edit is no source" 0 "$(built 4)" "" native_after 'echo 4 >>crates/rules/must-fail/one.edit'
+try "native-lib: a new source" 0 "$(built 5)" "" native_after 'echo 5 >crates/rules/src/more.rt'
+try "native-lib: a source that is gone" 0 "$(built 6)" "" native_after 'rm crates/rules/src/more.rt'
+try "native-lib: a missing archive" 0 "$(built 7)" "" native_after 'rm target/native/libbintrochis.a'
+try "native-lib: a changed archive" 0 "$(built 8)" "" native_after 'echo 6 >>target/native/libbintrochis.a'
+try "native-lib: a missing library" 0 "$(built 9)" "" native_after 'rm target/native/libbintrochis.so'
+try "native-lib: another kit" 0 "$(built 10)" "" native_after "echo 'kit 2' >'$room/kit/KIT-ID'"
 try "native-lib: what cannot be proved is not built" 1 "" "host NOT PROVED" native_after 'touch broken && echo 7 >>crates/rules/src/lib.rt'
-try "native-lib: and is tried again" 0 "$host"$'\n'"build 12" "" native_after 'rm broken'
+try "native-lib: and is tried again" 0 "$(built 12)" "" native_after 'rm broken'

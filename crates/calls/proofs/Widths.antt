@@ -139,8 +139,8 @@ module _ (g : Given) where
   moved : {c : rules.Call} {r : Answered} {b : List ℕ} → done c ≡ done asked → Means c r b → Means asked r b
   moved e k = record { means = k .means ∙ e; outcome = k .outcome; reply = k .reply }
 
-  pub without : {r : Answered} {b : List ℕ} → takesMemory (rowOf (g .ask .call) .takes) ≡ false → Means (with′ (given []) (given [])) r b → Means asked r b
-  without e = moved (ap done (no-fields (g .ask .call) _ _ _ _ (g .d) e))
+  without : (x y : Field) {r : Answered} {b : List ℕ} → takesMemory (rowOf (g .ask .call) .takes) ≡ false → Means (with′ x y) r b → Means asked r b
+  without x y e = moved (ap done (no-fields (g .ask .call) x y (address g) (size g) (g .d) e))
 
   module _ (takes : takesMemory (rowOf (g .ask .call) .takes) ≡ true) where
     by-numbers : done asked ≡
@@ -153,14 +153,14 @@ module _ (g : Given) where
         rw (by-number (refuse setting (g .lent)) (width (size g)) (done (with′ (given (bytesOf (g .w) (g .v))) (given (bytesOf (g .w′) (g .u))))) (non-zero-width (size g)))
 
     module _ {a : MemoryBytes} (as-address : a ≡ memoryBytes (g .v) (g .w) (g .wide)) where
-      pub address-refused : (a .refusal ≡ 0 → ⊥) → Means asked (refusedOf (g .session) (a .refusal)) (g .lent .buffer)
+      address-refused : (a .refusal ≡ 0 → ⊥) → Means asked (refusedOf (g .session) (a .refusal)) (g .lent .buffer)
       address-refused h = turned (by-numbers ∙ rw (refusal-of _ _ _ as-address, ne-eqb _ 0 h))
 
       module _ (address-passed : a .refusal ≡ 0) {s : MemoryBytes} (as-size : s ≡ memoryBytes (g .u) (g .w′) (g .wide)) where
-        pub size-refused : (s .refusal ≡ 0 → ⊥) → Means asked (refusedOf (g .session) (s .refusal)) (g .lent .buffer)
+        size-refused : (s .refusal ≡ 0 → ⊥) → Means asked (refusedOf (g .session) (s .refusal)) (g .lent .buffer)
         size-refused h = turned (by-numbers ∙ rw (refusal-of _ _ _ as-address, address-passed, refusal-of _ _ _ as-size, ne-eqb _ 0 h))
 
-        pub as-bytes : {address′ size′ b : List ℕ} {r : Answered} → s .refusal ≡ 0
+        as-bytes : {address′ size′ b : List ℕ} {r : Answered} → s .refusal ≡ 0
             → address′ ≡ take (a .len) (drop 0 (a .bytes)) → size′ ≡ take (s .len) (drop 0 (s .bytes))
             → Means (with′ (given address′) (given size′)) r b → Means asked r b
         as-bytes size-passed x y =
@@ -168,3 +168,29 @@ module _ (g : Given) where
             by-numbers ∙ rw (refusal-of _ _ _ as-address, address-passed, refusal-of _ _ _ as-size, size-passed)
             in
             moved (ap₂ (λ (p q : List ℕ). done (with′ (given p) (given q))) (x ∙ bytes-of _ _ _ as-address address-passed) (y ∙ bytes-of _ _ _ as-size size-passed) ∙ sym in-bytes)
+
+  -- The same by the numbers that the code asks: no width refuses a call that takes neither, and what stands for address and size is not looked at.
+  module _ {m : Bool} (takes : m ≡ takesMemory (rowOf (g .ask .call) .takes)) {a : MemoryBytes} (as-address : a ≡ memoryBytes (g .v) (g .w) (g .wide)) {n : ℕ} (says : n ≡ cond m (a .refusal) 0) where
+    pub turned-by-address : (n ≡ 0 → ⊥) → Means asked (refusedOf (g .session) n) (g .lent .buffer)
+    turned-by-address h = go m takes says
+      where
+        go : (y : Bool) → y ≡ takesMemory (rowOf (g .ask .call) .takes) → n ≡ cond y (a .refusal) 0 → Means asked (refusedOf (g .session) n) (g .lent .buffer)
+        go true e k = rw k (address-refused (sym e) as-address (λ z. h (k ∙ z)))
+        go false e k = absurd (h k)
+
+    module _ (address-passed : n ≡ 0) {s : MemoryBytes} (as-size : s ≡ memoryBytes (g .u) (g .w′) (g .wide)) {n′ : ℕ} (says′ : n′ ≡ cond m (s .refusal) 0) where
+      pub turned-by-size : (n′ ≡ 0 → ⊥) → Means asked (refusedOf (g .session) n′) (g .lent .buffer)
+      turned-by-size h = go m takes says says′
+        where
+          go : (y : Bool) → y ≡ takesMemory (rowOf (g .ask .call) .takes) → n ≡ cond y (a .refusal) 0 → n′ ≡ cond y (s .refusal) 0 → Means asked (refusedOf (g .session) n′) (g .lent .buffer)
+          go true e j k = rw k (size-refused (sym e) as-address (sym j ∙ address-passed) as-size (λ z. h (k ∙ z)))
+          go false e j k = absurd (h k)
+
+      pub handed-on : {address′ size′ b : List ℕ} {r : Answered} → n′ ≡ 0
+          → address′ ≡ take (a .len) (drop 0 (a .bytes)) → size′ ≡ take (s .len) (drop 0 (s .bytes))
+          → Means (with′ (given address′) (given size′)) r b → Means asked r b
+      handed-on {address′} {size′} {b} {r} size-passed x z k = go m takes says says′
+        where
+          go : (y : Bool) → y ≡ takesMemory (rowOf (g .ask .call) .takes) → n ≡ cond y (a .refusal) 0 → n′ ≡ cond y (s .refusal) 0 → Means asked r b
+          go true e i j = as-bytes (sym e) as-address (sym i ∙ address-passed) as-size (sym j ∙ size-passed) x z k
+          go false e i j = without (given address′) (given size′) (sym e) k

@@ -10,6 +10,7 @@ use exchange::types::Timing;
 use requests::Call;
 use requests::rows::Takes;
 use requests::rows::row_of;
+ghost use mathlib.Core.Bool.{cond};
 ghost use mathlib.Core.List.{[]};
 ghost use mathlib.Core.Path.{_≡_};
 ghost use Rattle.exchange.specs.Meaning.{outcomeOf};
@@ -184,8 +185,15 @@ fn takes_memory(takes: Takes) -> bool
     }
 }
 
+// No width refuses a call that takes neither.
+fn refusal_of(takes: bool, refusal: u8) -> u8
+    ensures { λ r. ⌜ r ≡ cond takes refusal 0 ⌝ }
+{
+    if takes { refusal } else { 0 }
+}
+
 // The `alfid` form: "address and size as 64-bit numbers, each with a width in bytes, sent high byte first". Under the wide setting widths 1 to
-// 15 are taken, "padded with zeros on the left". Other calls take neither.
+// 15 are taken, "padded with zeros on the left". Other calls take neither, whatever is handed on to them.
 pub fn run_alfid(
     session: Timing,
     ask: Ask,
@@ -205,17 +213,15 @@ pub fn run_alfid(
 {
     let call = ask.call;
     let row = row_of(call);
-    let takes = row.takes;
-    if !takes_memory(takes) {
-        return run(session, ask, request, b"", b"", data, events, replies);
-    }
+    let arguments = row.takes;
+    let takes = takes_memory(arguments);
     let a = wire::memory_bytes(address, address_width, wide);
-    let number = a.refusal;
+    let number = refusal_of(takes, a.refusal);
     if number != 0 {
         return refused(session, number);
     }
     let s = wire::memory_bytes(size, size_width, wide);
-    let number = s.refusal;
+    let number = refusal_of(takes, s.refusal);
     if number != 0 {
         return refused(session, number);
     }

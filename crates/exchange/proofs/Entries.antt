@@ -5,11 +5,12 @@ use native.Mathlib.Numerals.{add-one}
 use native.Mathlib.Omega.{arith}
 use mathlib.Core.Bool.{Bool, true, false, cond, _&&_, and-true, and-false, and-eq-true-iff}
 use mathlib.Core.Logic.{_≢_}
-use mathlib.Core.Path.{_≡_, refl, sym, ap, _∙_}
+use mathlib.Core.Path.{_≡_, refl, sym, ap, ap₂, _∙_}
 use mathlib.Core.List.{List, [], _∷_}
 use borrow.Author.Tests.{le-leb, lt-leb, lt-ltb, eq-eqb, ne-eqb, leb-true}
 use lib.Dec.{leb, eqb}
 use lib.ListN.{length, getD, take, drop, length-take, length-drop}
+use lib.Seq.{getD-take, getD-drop}
 use Rattle.rules.specs.Bytes.{u16At, u32At, every, isByte}
 use Rattle.rules.specs.Events.{Form, plain, addressed, eventSize, Entry, Event, sourceAt, entryIn, entryAt, entriesFrom, entries, foreign, said, eventOf, named, sound, rising, withinLimits}
 use Rattle.rules.proofs.Laying.{chunk-entry}
@@ -74,6 +75,23 @@ module _ (l : List ℕ) (i : ℕ) where
       no-source plain at k = refl
       no-source addressed at k = u16-past l (at + 10) (omega arith)
 
+  -- Of an entry the time and the kind alone.
+  byte-read : (n at k : ℕ) → k < n → getD (take n (drop at l)) k 0 ≡ getD l (at + k) 0
+  byte-read n at k h = getD-take n (drop at l) k 0 h ∙ getD-drop at l k 0
+
+  word-read : (n at k : ℕ) → k + 1 < n → u16At (take n (drop at l)) k ≡ u16At l (at + k)
+  word-read n at k h =
+      ap₂ (λ (x y : ℕ). x * 256 + y) (byte-read n at k (omega arith)) (byte-read n at (k + 1) h ∙ ap (λ (m : ℕ). getD l m 0) (omega arith))
+
+  pub time-read : (form : Form) (size : ℕ) → size ≡ eventSize form → u32At (take (i * size + 4 - i * size) (drop (i * size) l)) 0 ≡ entryAt form l i .time
+  time-read form size is =
+      rw (is, add-sub-cancel-left (i * eventSize form) 4)
+      (ap₂ (λ (x y : ℕ). x * 65536 + y) (word-read 4 (i * eventSize form) 0 (omega arith) ∙ ap (u16At l) (omega arith)) (word-read 4 (i * eventSize form) 2 (omega arith)))
+
+  pub kind-read : (form : Form) (size : ℕ) → size ≡ eventSize form → u16At (take (i * size + 4 + 2 - (i * size + 4)) (drop (i * size + 4) l)) 0 ≡ entryAt form l i .kind
+  kind-read form size is =
+      rw (is, add-sub-cancel-left (i * eventSize form + 4) 2) (word-read 2 (i * eventSize form + 4) 0 (omega arith) ∙ ap (u16At l) (omega arith))
+
 module _ (form : Form) (l : List ℕ) (n i : ℕ) where
   pub next-entry : (e : Entry) → e ≡ entryAt form l i → i < n → entriesFrom form l (n - i) i ≡ e ∷ entriesFrom form l (n - (i + 1)) (i + 1)
   unfolding entriesFrom
@@ -100,6 +118,13 @@ module _ (listens : ℕ) (r : List ℕ) (e : Entry) where
       go : (b : Bool) → cond b 1 (e .kind) ≡ 1 → cond b (Event.idle (e .time)) (said r e) ≡ Event.idle (e .time)
       go true k = refl
       go false k = rw (ne-eqb (e .kind) 0 (λ z. absurd (omega arith)), eq-eqb (e .kind) 1 k)
+
+  pub idle-heard : e .kind ≡ 1 → kindHeard listens e ≡ 1
+  idle-heard h = go (foreign listens e)
+    where
+      go : (b : Bool) → cond b 1 (e .kind) ≡ 1
+      go true = refl
+      go false = h
 
   pub heard-ended : kindHeard listens e ≡ 2 → eventOf listens r e ≡ Event.ended (e .time)
   heard-ended h = go (foreign listens e) h

@@ -26,11 +26,11 @@ use Rattle.exchange.specs.Counts.{countOf, plus}
 use Rattle.exchange.specs.Guarded.{over}
 use Rattle.exchange.specs.Meaning.{outcomeOf, partOf, answerOf}
 use Rattle.exchange.specs.Places.{Inside, InsideOutcome, beginning, SettlesAs, TurnsTo, Turns, Answers}
-use Rattle.exchange.specs.States.{stateOf, startOf, silenceOf, underOf}
+use Rattle.exchange.specs.States.{stateOf, startOf, passedBy, silenceOf, underOf}
 use Rattle.exchange.proofs.Counting.{count-none, plus-counts}
-use Rattle.exchange.proofs.Entries.{next-entry, beginning-inside, all-sound, few-entries}
+use Rattle.exchange.proofs.Entries.{next-entry, idle-heard, beginning-inside, all-sound, few-entries}
 use Rattle.exchange.proofs.Placing.{whole-inside}
-use Rattle.exchange.proofs.Turning.{left, settle-none, settle-late, settle-on, settle-ends}
+use Rattle.exchange.proofs.Turning.{turns-idle, left, settle-none, settle-late, settle-on, settle-ends}
 
 -- A settled exchange of the code is one of `rules`: it means its outcome and reply, and counts its times.
 pub record Stands (overall : Option ℕ) (l : List ℕ) (s : Settled) (x : rules.Settled) : Type 0 where
@@ -118,6 +118,10 @@ module _ {strict : Bool} {a : Asked} (overall : Option ℕ) {form : Form} {liste
     pub no-more : {s : Settled} {v : Answer} → s ≡ silenceOf now → v ≡ underOf overall s → n ≤ i → Answers r v (over strict a overall form listens l r)
     no-more quiet u h = silent quiet u (sym (settle-none strict a form listens r l n i (held .at) h) ∙ held .same)
 
+    -- The time that was read alone is the entry's.
+    pub in-time-as : {d t : ℕ} {e : Entry} → t ≡ entryAt form l i .time → e ≡ entryAt form l i → t ≤ d → e .time ≤ d
+    in-time-as {d} et here h = subst (λ (m : ℕ). m ≤ d) (et ∙ sym (ap (λ (x : Entry). x .time) here)) h
+
     module _ {e : Entry} (here : e ≡ entryAt form l i) (more : i < n) where
       pub too-late : {s : Settled} {v : Answer} → s ≡ silenceOf now → v ≡ underOf overall s → now .deadline < e .time
           → Answers r v (over strict a overall form listens l r)
@@ -190,3 +194,11 @@ module _ {strict : Bool} {a : Asked} (overall : Option ℕ) {form : Form} {liste
                   inside = t .inside;
                   placed = whole-inside r (s .reply .at) (s .reply .len) (t .whole) (omega (arith, t .starts, beginning-inside r e (rest-sound .0)));
                 })))
+
+  -- An idle event was passed, by its time and kind alone.
+  pub after-idle : {n i : ℕ} {now s : State} {t k : ℕ} → Held strict a overall form listens l r n i now → i < n → t ≡ entryAt form l i .time → k ≡ entryAt form l i .kind
+      → t ≤ now .deadline → k ≡ 1 → s ≡ passedBy overall t now → Held strict a overall form listens l r n (i + 1) s
+  after-idle {i = i} {now = now} held more et ek early one is =
+      let e = entryAt form l i in
+      let turns = turns-idle {strict = strict} {a = a} {overall = overall} {before = now} {e = e} {l = r} (sym (idle-heard listens r e (sym ek ∙ one))) refl refl in
+      after-on held refl more turns (in-time-as held et refl early) (ap On (ap (λ (m : ℕ). passedBy overall m now) (sym et) ∙ sym is))

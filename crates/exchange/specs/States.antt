@@ -12,7 +12,7 @@ use Rattle.exchange.specs.declared.types.Outcome.the-variants.{Suppresse
 use Rattle.exchange.specs.declared.types.Place.{Place}
 use Rattle.exchange.specs.declared.types.Settled.{Settled}
 use Rattle.exchange.specs.declared.types.State.{State}
-use Rattle.exchange.specs.Counts.{countOf}
+use Rattle.exchange.specs.Counts.{countOf, counted}
 
 abbrev pub noPlace : Place
 noPlace = record { at = 0; len = 0 }
@@ -29,6 +29,10 @@ stateOf overall s = record {
 -- "The deadline starts at P2."
 abbrev pub startOf : exchange.Asked → State
 startOf a = stateOf none (exchange.start a)
+
+-- "Idle changes nothing" but that it was read, at this time.
+abbrev pub passedBy : Option ℕ → ℕ → State → State
+passedBy overall t s = record { hush = s .hush; deadline = s .deadline; read = counted overall t (s .read); notices = s .notices }
 
 -- "No event in time: suppressed if bit 7 of the sub-function is set and no pending was read, else timeout. It finishes at the deadline."
 abbrev pub silenceOf : State → Settled

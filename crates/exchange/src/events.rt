@@ -57,6 +57,27 @@ pub(crate) fn event_in(form: Form, events: &[u8], i: usize) -> Event
     event_of(&events[at..end])
 }
 
+// Of such an event the time and the kind alone, which are all that an idle event says.
+pub(crate) fn time_in(form: Form, events: &[u8], i: usize) -> u32
+    requires { ⌜ i < length (now events) / eventSize (formOf form) ⌝ }
+    ensures { λ r. ⌜ r ≡ entryAt (formOf form) (now (events .entry)) i .time ⌝ }
+{
+    let size = event_size(form);
+    let at = i * size;
+    let end = at + 4;
+    u32_at(&events[at..end], 0)
+}
+
+pub(crate) fn kind_in(form: Form, events: &[u8], i: usize) -> u16
+    requires { ⌜ i < length (now events) / eventSize (formOf form) ⌝ }
+    ensures { λ r. ⌜ r ≡ entryAt (formOf form) (now (events .entry)) i .kind ⌝ }
+{
+    let size = event_size(form);
+    let at = i * size + 4;
+    let end = at + 2;
+    u16_at(&events[at..end], 0)
+}
+
 // Event number `i`. Bytes past the end read as 0, and so does the address of an event that has none.
 pub fn event_at(form: Form, events: &[u8], i: usize) -> Event
     ensures { λ r. ⌜ entryOf r ≡ entryAt (formOf form) (now (events .entry)) i ⌝ }

@@ -2,7 +2,9 @@
 use events::event_count;
 use events::event_in;
 use events::kind_heard;
+use events::kind_in;
 use events::named;
+use events::time_in;
 use events::within_limits;
 use judging::look;
 use judging::suppresses;
@@ -26,7 +28,7 @@ ghost use Rattle.rules.specs.Events.{withinLimits};
 ghost use Rattle.rules.specs.Exchange as rules;
 ghost use Rattle.exchange.specs.Meaning.{formOf, askedOf, limitOf, overallOf, entryOf, outcomeOf};
 ghost use Rattle.exchange.specs.Counts.{inTime, oneMore, counted};
-ghost use Rattle.exchange.specs.States.{startOf, silenceOf, underOf};
+ghost use Rattle.exchange.specs.States.{startOf, passedBy, silenceOf, underOf};
 ghost use Rattle.exchange.specs.Places.{Turns, Answers};
 ghost use Rattle.exchange.specs.Guarded.{over, guarded};
 
@@ -125,6 +127,20 @@ fn allows(limit: NoticeLimit, notices: usize) -> bool
     }
 }
 
+// "Idle changes nothing" but that it was read.
+fn passed(state: State, overall: RequestTimeout, time: u64) -> State
+    ensures { λ r. ⌜ r ≡ passedBy (overallOf overall) time state ⌝ }
+{
+    let read = counted(state.read, overall, time);
+    let notices = state.notices;
+    State {
+        hush: state.hush,
+        deadline: state.deadline,
+        read,
+        notices,
+    }
+}
+
 // What one event in time does. "The notice after the K-th ends the call with the new outcome `pendinglimit` at its arrival time". "Idle changes nothing. End gives disconnected, error gives transport."
 pub fn turn(
     strict: bool,
@@ -178,12 +194,7 @@ pub fn turn(
         }
     }
     if kind == 1 {
-        return Turn::On(State {
-            hush,
-            deadline: state.deadline,
-            read,
-            notices,
-        });
+        return Turn::On(passed(state, overall, time));
     }
     if kind == 2 {
         return Turn::Ends(Settled {
@@ -262,7 +273,7 @@ pub fn under(overall: RequestTimeout, settled: Settled) -> Answer
     }
 }
 
-// The loop over the list, with the state and its deadline carried. "An event exactly at a deadline is in time."
+// The loop over the list, with the state and its deadline carried. "An event exactly at a deadline is in time." Of an idle event no more is read than that it is one.
 fn settle(
     strict: bool,
     asked: Asked,
@@ -283,15 +294,20 @@ fn settle(
         if i >= n {
             break under(overall, silence(state));
         }
-        let event = event_in(form, events, i);
-        let time = event.time as u64;
+        let time = time_in(form, events, i) as u64;
         if time > state.deadline {
             break under(overall, silence(state));
         }
-        i += 1;
-        match turn(strict, asked, overall, listens, state, event, replies) {
-            Turn::On(next) => state = next,
-            Turn::Ends(settled) => break under(overall, settled),
+        if kind_in(form, events, i) == 1 {
+            state = passed(state, overall, time);
+            i += 1;
+        } else {
+            let event = event_in(form, events, i);
+            i += 1;
+            match turn(strict, asked, overall, listens, state, event, replies) {
+                Turn::On(next) => state = next,
+                Turn::Ends(settled) => break under(overall, settled),
+            }
         }
     };
     answer

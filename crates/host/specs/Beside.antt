@@ -1,23 +1,15 @@
--- What the door answers beside a call: a log's line, a block, the faults that a mask selects, a controller's reply.
+-- What the door answers beside a call: a block, the faults that a mask selects, a controller's reply.
 use Prim.Native.Nat.{ℕ, _-_, _*_, _^_}
-use mathlib.Core.Bool.{cond}
 use mathlib.Core.Path.{_≡_}
-use mathlib.Core.List.{List, [], _∷_, _++_}
-use lib.Dec.{leb}
-use lib.ListN.{length, drop}
+use mathlib.Core.List.{List, [], _∷_}
+use lib.ListN.{length}
 use Rattle.rules.specs.Blocks.{block, carried}
-use Rattle.rules.specs.Logs.{lineOf}
 use Rattle.blocks.specs.Cuts.{cut}
 use Rattle.blocks.specs.declared.Cut.{Cut}
 use Rattle.blocks.specs.declared.Cut.the-variants.{Counter, Refused}
 use Rattle.faults.specs.declared.Found.{Found}
 use Rattle.faults.specs.declared.Found.the-variants.{At, Nothing}
 use Rattle.bench.specs.Responder.{Response, replied, silent, refused, respond}
-
--- A log's line stands at the buffer's front, and the answer is its length; where there is no room it is 0, and nothing is touched.
-pub record Lined (log before : List ℕ) (r : ℕ) (after : List ℕ) : Type 0 where
-  pub size : r ≡ cond (leb (length (lineOf log)) (length before)) (length (lineOf log)) 0
-  pub line : after ≡ cond (leb (length (lineOf log)) (length before)) (lineOf log ++ drop (length (lineOf log)) before) before
 
 -- A block: its counter, where it begins and how long it is; or why there is none.
 abbrev pub blockIn : List ℕ → ℕ → ℕ → List ℕ → Cut → List ℕ

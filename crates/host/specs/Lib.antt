@@ -1,4 +1,3 @@
 -- What the contracts of `host` cite besides `rules`.
 pub mod Served
-pub mod Stepping
 pub mod Beside

@@ -1,14 +1,12 @@
-// What a host needs beside a call: the door's version, the line of a log, the blocks of a download, the faults that a mask selects, and the reply of a controller
-// on the bench.
+// What a host needs beside a call: the door's version, the blocks of a download, the faults that a mask selects, and the reply of a controller on the bench.
 use blocks::Cut;
 use faults::Found;
 use responder::Response;
-use text::Written;
 ghost use mathlib.Core.Path.{_≡_};
 ghost use lib.ListN.{length};
 ghost use Rattle.rules.specs.Faults.{select};
 ghost use Rattle.faults.specs.Found.{foundOf};
-ghost use Rattle.host.specs.Beside.{Lined, Blocked, placeIn, Replies};
+ghost use Rattle.host.specs.Beside.{Blocked, placeIn, Replies};
 
 // The version of the door, of which include/bintrochis.h has the same number: 200 is 0.2.0.
 #[no_mangle]
@@ -16,17 +14,6 @@ pub extern "C" fn bintrochis_version() -> u32
     ensures { λ r. ⌜ r ≡ 200 ⌝ }
 {
     200
-}
-
-// The line that `udslog` prints of a log, at the front of `line`: how long it is, its newline included. 0 where there is no room, and nothing is touched.
-#[no_mangle]
-pub extern "C" fn bintrochis_door_line(log: &[u8], line: &mut [u8]) -> usize
-    ensures { λ r. ⌜ Lined (now (log .entry)) (now (line .entry)) r (now (line .exit)) ⌝ }
-{
-    match log_line::line_of(log, line) {
-        Written::Line(n) => n,
-        Written::NoRoom => 0,
-    }
 }
 
 // Block k of `data` under the block length that call 11 returned: 0, and its counter, where it begins and how long it is; or refusal 11 or 12, and nothing is touched.

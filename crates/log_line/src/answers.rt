@@ -1,10 +1,10 @@
 // The line of an answer: a word for each outcome, and its detail.
+use crate::words;
 use exchange::error::Fault;
 use exchange::error::deviation_number;
 use exchange::types::Answer;
 use exchange::types::Outcome;
 use text::Written;
-use text::put_line;
 use wire::part;
 ghost use Rattle.rules.specs.Lines as lines;
 ghost use Rattle.exchange.specs.Meaning.{answerOf};
@@ -23,33 +23,22 @@ pub fn put_answer(line: &mut [u8], answer: Answer, replies: &[u8]) -> Written
     match outcome {
         Outcome::PositiveResponse(data) => {
             let bytes = part(replies, data.at, data.len);
-            put_line(line, b"positive", time, events, notices, b"", bytes)
+            words::positive(line, time, events, notices, bytes)
         }
-        Outcome::Suppressed => put_line(line, b"suppressed", time, events, notices, b"", b""),
-        Outcome::NegativeResponse(code) => {
-            put_line(line, b"negative", time, events, notices, &[code], b"")
-        }
-        Outcome::Timeout => put_line(line, b"timeout", time, events, notices, b"", b""),
-        Outcome::Disconnected => put_line(line, b"disconnected", time, events, notices, b"", b""),
-        Outcome::Transport(error) => {
-            let digits = [(error / 256) as u8, (error % 256) as u8];
-            put_line(line, b"transport", time, events, notices, &digits, b"")
-        }
+        Outcome::Suppressed => words::suppressed(line, time, events, notices),
+        Outcome::NegativeResponse(code) => words::negative(line, time, events, notices, code),
+        Outcome::Timeout => words::timeout(line, time, events, notices),
+        Outcome::Disconnected => words::disconnected(line, time, events, notices),
+        Outcome::Transport(error) => words::transport(line, time, events, notices, error),
         Outcome::Fault(fault) => match fault {
             Fault::ProtocolDeviation(deviation) => {
-                let head = [deviation_number(deviation)];
-                put_line(line, b"deviation", time, events, notices, &head, reply)
+                let number = deviation_number(deviation);
+                words::deviation(line, time, events, notices, number, reply)
             }
-            Fault::InvalidResponseLength => {
-                put_line(line, b"length", time, events, notices, b"", b"")
-            }
-            Fault::BlockLengthOverflow => {
-                put_line(line, b"overflow", time, events, notices, b"", reply)
-            }
+            Fault::InvalidResponseLength => words::length(line, time, events, notices),
+            Fault::BlockLengthOverflow => words::overflow(line, time, events, notices, reply),
         },
-        Outcome::Refused(refusal) => {
-            put_line(line, b"refused", time, events, notices, &[refusal], b"")
-        }
-        Outcome::PendingLimit => put_line(line, b"pendinglimit", time, events, notices, b"", b""),
+        Outcome::Refused(refusal) => words::refused(line, time, events, notices, refusal),
+        Outcome::PendingLimit => words::pending_limit(line, time, events, notices),
     }
 }

@@ -144,7 +144,7 @@ fn memory_line(case: &[u8], line: &mut [u8]) -> Written {
 fn alfid_line(case: &[u8], line: &mut [u8]) -> Written {
     let mut request = [0u8; 4095];
     let mut answer = [0u64; 15];
-    host::bintrochis_door_call_alfid(
+    alfid_door::bintrochis_door_call_alfid(
         wire::byte_at(case, 0),
         wire::byte_at(case, 1),
         wire::u16_at(case, 2),

@@ -34,6 +34,23 @@ decimal-big v h b = more 19 v (omega arith) ∙ rw (le-ltb v 10 h)
 pub decimal-longer : (v : ℕ) → 10 ≤ v → v < 2 ^ 64 → length (decimal v) ≡ length (decimal (v / 10)) + 1
 decimal-longer v h b = ap length (decimal-big v h b) ∙ length-append (decimal (v / 10)) (digit (v % 10) ∷ [])
 
+-- By two digits.
+pub decimal-two : (v : ℕ) → 10 ≤ v → v < 100 → decimal v ≡ digit (v / 10) ∷ digit (v % 10) ∷ []
+decimal-two v h b = decimal-big v h (omega arith) ∙ ap (λ (l : List ℕ). l ++ (digit (v % 10) ∷ [])) (decimal-small (v / 10) (omega arith))
+
+pub decimal-hundred : (v : ℕ) → 100 ≤ v → v < 2 ^ 64 → decimal v ≡ decimal (v / 100) ++ (digit (v % 100 / 10) ∷ digit (v % 100 % 10) ∷ [])
+decimal-hundred v h b =
+    let tens : v / 10 / 10 ≡ v / 100 = omega arith in
+    let ten : v / 10 % 10 ≡ v % 100 / 10 = omega arith in
+    let unit : v % 10 ≡ v % 100 % 10 = omega arith in
+    decimal-big v (omega arith) b ∙
+    ap (λ (l : List ℕ). l ++ (digit (v % 10) ∷ [])) (decimal-big (v / 10) (omega arith) (omega arith)) ∙
+    append-assoc (decimal (v / 10 / 10)) (digit (v / 10 % 10) ∷ []) (digit (v % 10) ∷ []) ∙
+    (λ i. decimal (tens i) ++ (digit (ten i) ∷ digit (unit i) ∷ []))
+
+pub hundred-longer : (v : ℕ) → 100 ≤ v → v < 2 ^ 64 → length (decimal v) ≡ length (decimal (v / 100)) + 2
+hundred-longer v h b = ap length (decimal-hundred v h b) ∙ length-append (decimal (v / 100)) (digit (v % 100 / 10) ∷ digit (v % 100 % 10) ∷ [])
+
 -- A number below 10 ^ (j + 1) has at most j + 1 digits.
 pub digits : (k j v : ℕ) → v < limit j → length (decimalTo k v) ≤ j + 1
 unfolding decimalTo

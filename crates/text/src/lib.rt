@@ -1,7 +1,7 @@
 // Lines of text, written into a lent buffer. Document 01's: "outcome, finishing time, events read, notices, detail" and a newline.
 ghost use mathlib.Core.Path.{_≡_};
 ghost use mathlib.Core.List.{[], _∷_, _++_};
-ghost use Prim.Native.Nat.{_+_, _<_, _≤_};
+ghost use Prim.Native.Nat.{_+_, _/_, _%_, _<_, _≤_};
 ghost use lib.Dec.{leb};
 ghost use lib.ListN.{length};
 ghost use Rattle.rules.specs.Lines.{digit, decimal, hex, hexOrDash, spaced};
@@ -70,6 +70,16 @@ fn decimal_length(value: u64) -> usize
     }
 }
 
+// Both digits of a number below 100.
+fn put_two(line: &mut [u8], at: usize, value: u64) -> usize
+    requires { ⌜ (at + 2 ≤ length (now line)) × (value < 100) ⌝ }
+    ensures { λ r. ⌜ Put (now (line .entry)) at (digit (value / 10) ∷ digit (value % 10) ∷ []) (now (line .exit)) r ⌝ }
+{
+    let n = put_byte(line, at, digit((value / 10) as u8));
+    put_byte(line, n, digit((value % 10) as u8))
+}
+
+// Two digits a call, so that ten take five frames of stack.
 fn put_decimal(line: &mut [u8], at: usize, value: u64) -> usize
     requires { ⌜ at + length (decimal value) ≤ length (now line) ⌝ }
     ensures { λ r. ⌜ Put (now (line .entry)) at (decimal value) (now (line .exit)) r ⌝ }
@@ -77,8 +87,11 @@ fn put_decimal(line: &mut [u8], at: usize, value: u64) -> usize
     if value < 10 {
         return put_byte(line, at, digit(value as u8));
     }
-    let n = put_decimal(line, at, value / 10);
-    put_byte(line, n, digit((value % 10) as u8))
+    if value < 100 {
+        return put_two(line, at, value);
+    }
+    let n = put_decimal(line, at, value / 100);
+    put_two(line, n, value % 100)
 }
 
 fn put_number(line: &mut [u8], at: usize, value: u64) -> usize

@@ -1,5 +1,6 @@
 -- `exchange::turn` meets its contract.
 use Rattle.exchange.proofs.Turning.{turns-notice, turns-limit, turns-reply, turns-idle, turns-ended, turns-failed}
+use mathlib.Core.Path.{refl}
 use borrow.Author.Needs.{needs}
 use Rattle.exchange.proofs.turn.Statement.{statement}
 use Rattle.exchange.proofs.turn.Tie as tie
@@ -74,8 +75,11 @@ returns-3 c =
     turns-reply (heard at-counted .kind-heard .ensures) (at-counted .counted .ensures) (at-if .if1 .taken) (at-named .named .ensures) (at-look .look .ensures)
     (c .before .before .outcome .given .1) (c .finish .ensures)
 
+passed-requires : tie.Need-passed-requires
+passed-requires c κs = search needs
+
 returns-4 : tie.Need-returns-4
-returns-4 c = turns-idle (heard (c .before .before) .kind-heard .ensures) (c .before .before .counted .ensures) (c .if3 .taken)
+returns-4 c = rw (c .passed .ensures) (turns-idle (heard (c .before .before .before) .kind-heard .ensures) refl (c .before .if3 .taken))
 
 returns-5 : tie.Need-returns-5
 returns-5 c = turns-ended (heard (c .before .before .before) .kind-heard .ensures) (c .before .before .before .counted .ensures) (c .if4 .taken)
@@ -103,6 +107,7 @@ turn-spec =
     enum-known-outcome
     finish-requires
     returns-3
+    passed-requires
     returns-4
     returns-5
     returns-6)
