@@ -15,7 +15,7 @@ use Rattle.rules.specs.Events.{Form, plain, addressed, eventSize, Entry, entryA
 use Rattle.rules.specs.Lines.{ascii, digit, decimalTo, decimal}
 use Rattle.rules.specs.Logs.{Header, formIn, headerOf, Uses, nothing, usesByCall, usesOf, listensAt9, area, eventBytes}
 use Rattle.rules.proofs.Judging.{both}
-use Rattle.log_fields.specs.Fields.{numberAt, Field, zeroWhere, nine, headed, headerFields, entryFields, entriesFields, eventFields, fields}
+use Rattle.log_fields.specs.Fields.{numberAt, Field, zeroWhere, nine, heading, entryFields, entriesFields, eventFields, fields}
 use Rattle.log_fields.specs.Promises.{UpTo}
 use Rattle.log_fields.proofs.Firsts.{all-append}
 
@@ -35,7 +35,7 @@ nine-stands : (form : Form) (l : List ℕ) → listensAt9 form l ≡ numberAt (n
 nine-stands plain l = refl
 nine-stands addressed l = refl
 
-header-fine : (l : List ℕ) → let h = headerOf l in Every (Fine l) (headed h (length l) ∷ headerFields h (length l))
+header-fine : (l : List ℕ) → let h = headerOf l in Every (Fine l) (heading h (length l))
 header-fine l =
     let h = headerOf l in
     let fit = needs-fit (h .call) in (
@@ -113,7 +113,7 @@ pair-in l at m j k h e =
     ap₂ (λ (a b : ℕ). a * 256 + b) (byte-in l at m j (omega arith) ∙ ap (λ (x : ℕ). getD l x 0) e)
     (byte-in l at m (j + 1) (omega arith) ∙ ap (λ (x : ℕ). getD l x 0) (omega arith))
 
-in-area : (form : Form) (i n : ℕ) → i < n / eventSize form → i * eventSize form + 10 ≤ n
+pub in-area : (form : Form) (i n : ℕ) → i < n / eventSize form → i * eventSize form + 10 ≤ n
 in-area plain i n h = omega arith
 in-area addressed i n h = omega arith
 
@@ -144,5 +144,5 @@ pub all-fine : (l : List ℕ) → Every (Fine l) (fields l)
 all-fine l =
     let h = headerOf l in
     let bs = eventBytes h l in
-    all-append (Fine l) (headed h (length l) ∷ headerFields h (length l)) (eventFields h l) (header-fine l)
+    all-append (Fine l) (heading h (length l)) (eventFields h l) (header-fine l)
     (events-fine l (formIn h) (h .eventsAt) (h .events * eventSize (formIn h)) (length bs / eventSize (formIn h)) 0 (omega arith))

@@ -30,6 +30,19 @@ none-off (f ∷ fs) = go (inside f) (none-off fs)
     go true e = e
     go false e = refl
 
+-- Of a list behind another.
+pub skips : (fs gs : List Field) → every inside fs ≡ true → first (fs ++ gs) ≡ first gs
+skips [] gs e = refl
+skips (f ∷ fs) gs e = let b = both (inside f) (every inside fs) e in rw (b .0) (skips fs gs (b .1))
+
+pub stops : (fs gs : List Field) → every inside fs ≡ false → first (fs ++ gs) ≡ first fs
+stops [] gs e = absurd (false≢true (sym e))
+stops (f ∷ fs) gs e = go (inside f) (stops fs gs) e
+  where
+    go : (t : Bool) → (every inside fs ≡ false → first (fs ++ gs) ≡ first fs) → (t && every inside fs) ≡ false → cond t (first (fs ++ gs)) (some f) ≡ cond t (first fs) (some f)
+    go true later e = later e
+    go false later e = refl
+
 below : (n : ℕ) (most : Option ℕ) → atMost n most ≡ true → UpTo n most
 below n none e = tt
 below n (some m) e = leb-true n m e

@@ -13,7 +13,7 @@ use Rattle.rules.specs.Conversations.{Every}
 use Rattle.rules.specs.Events.{Form, Entry, eventSize, entries}
 use Rattle.rules.specs.Logs.{Header, headerSize, formIn, headerOf, Uses, flag, usesOf, mostListens, all, areasOk, fieldsOk, eventOk, eventBytes, laidOut, layoutOk}
 use Rattle.rules.proofs.Judging.{both, Trues, trues, trues-back}
-use Rattle.log_fields.specs.Fields.{Field, atMost, zeroWhere, inside, headed, headerFields, entryFields, entriesFields, eventFields, fields, first, firstOff}
+use Rattle.log_fields.specs.Fields.{Field, atMost, zeroWhere, inside, heading, entryFields, entriesFields, eventFields, fields, first, firstOff}
 use Rattle.log_fields.specs.Promises.{none?, Right, Decides}
 use Rattle.log_fields.proofs.Firsts.{every-append, none-off, rights, insides, alike}
 
@@ -31,7 +31,7 @@ by-kind false true true size = refl
 by-kind false true false size = refl
 by-kind false false offset size = refl
 
-entry-tests : (number at : ℕ) (e : Entry) → every inside (entryFields number at e) ≡ eventOk e
+pub entry-tests : (number at : ℕ) (e : Entry) → every inside (entryFields number at e) ≡ eventOk e
 entry-tests number at e =
     let silent = eqb (e .kind) 1 || eqb (e .kind) 2 in
     let broken = eqb (e .kind) 3 in
@@ -88,7 +88,7 @@ module _ (h : Header) (n : ℕ) where
       leb both-lengths (h .arguments) ∷
       leb (h .arguments) (both-lengths + flag 32 h * 65535) ∷ []
 
-  forth : Trues front → Trues areas → Trues used → Every Right (headed h n ∷ headerFields h n)
+  forth : Trues front → Trues areas → Trues used → Every Right (heading h n)
   forth f a t =
       let v = one-or-two (h .version) (f .1 .0) in (
         (omega (arith, leb-true), tt),
@@ -143,7 +143,7 @@ module _ (h : Header) (n : ℕ) where
         ),
       )
 
-  back : Every Right (headed h n ∷ headerFields h n) → Trues front × Trues areas × Trues used
+  back : Every Right (heading h n) → Trues front × Trues areas × Trues used
   back r = (
     (le-leb (headerSize (formIn h)) n (omega arith), (either (h .version) (omega arith) (omega arith), (le-leb (h .call) 15 (omega arith), tt))),
     (
@@ -200,10 +200,10 @@ module _ (l : List ℕ) where
   abbrev events : Bool
   events = every eventOk (entries (formIn h) (eventBytes h l))
 
-  in-order : every inside (fields l) ≡ (every inside (headed h (length l) ∷ headerFields h (length l)) && events)
+  in-order : every inside (fields l) ≡ (every inside (heading h (length l)) && events)
   in-order =
-      every-append inside (headed h (length l) ∷ headerFields h (length l)) (eventFields h l) ∙
-      ap (λ (t : Bool). every inside (headed h (length l) ∷ headerFields h (length l)) && t) (event-tests (formIn h) (h .eventsAt) 0 (entries (formIn h) (eventBytes h l)))
+      every-append inside (heading h (length l)) (eventFields h l) ∙
+      ap (λ (t : Bool). every inside (heading h (length l)) && t) (event-tests (formIn h) (h .eventsAt) 0 (entries (formIn h) (eventBytes h l)))
 
   passes : layoutOk l ≡ true → every inside (fields l) ≡ true
   unfolding layoutOk
@@ -213,13 +213,13 @@ module _ (l : List ℕ) where
       let r =
       forth h (length l) (t .0, (t .1 .0, (t .1 .1 .0, tt))) (trues (areas h (length l)) (t .1 .1 .1 .0)) (trues (used h (length l)) (b .1))
       in
-      in-order ∙ rw (insides (headed h (length l) ∷ headerFields h (length l)) r) (t .1 .1 .1 .1 .0)
+      in-order ∙ rw (insides (heading h (length l)) r) (t .1 .1 .1 .1 .0)
 
   sound : every inside (fields l) ≡ true → layoutOk l ≡ true
   unfolding layoutOk
   sound e =
-      let b = both (every inside (headed h (length l) ∷ headerFields h (length l))) events (sym in-order ∙ e) in
-      let r = back h (length l) (rights (headed h (length l) ∷ headerFields h (length l)) (b .0)) in
+      let b = both (every inside (heading h (length l))) events (sym in-order ∙ e) in
+      let r = back h (length l) (rights (heading h (length l)) (b .0)) in
       let laid =
       trues-back (leb (headerSize (formIn h)) (length l) ∷ (eqb (h .version) 1 || eqb (h .version) 2) ∷ leb (h .call) 15 ∷ areasOk h (length l) ∷ events ∷ [])
       (r .0 .0, (r .0 .1 .0, (r .0 .1 .1 .0, (trues-back (areas h (length l)) (r .1), (b .1, tt)))))

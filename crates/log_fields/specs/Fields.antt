@@ -9,7 +9,7 @@ use lib.ListN.{length, getD}
 use Rattle.rules.specs.Bytes.{u16At, u32At}
 use Rattle.rules.specs.Events.{Form, plain, addressed, eventSize, Entry, entries}
 use Rattle.rules.specs.Lines.{ascii, decimal}
-use Rattle.rules.specs.Logs.{moved, headerSize, Header, formIn, headerOf, flag, usesOf, mostListens, eventBytes}
+use Rattle.rules.specs.Logs.{moved, headerSize, Header, formIn, headerOf, flag, Uses, usesOf, mostListens, eventBytes}
 
 -- How a number stands in a log: as the log's own length, as a bit of the byte at an index, or as the bytes from there on.
 pub data Read : Type 0 where
@@ -62,9 +62,8 @@ abbrev pub headed : Header → ℕ → Field
 headed h n = field (ascii "the file") whole 0 n (headerSize (formIn h)) none
 
 -- The fields of a header that a test speaks of, as they stand in a log of n bytes; behind them the log's own length, which the total says.
-abbrev pub headerFields : Header → ℕ → List Field
-headerFields h n =
-    let u = usesOf (h .call) in
+abbrev pub headerFields : Header → Uses → ℕ → List Field
+headerFields h u n =
     let m = moved (formIn h) in
     let size = headerSize (formIn h) in
     let lengths = h .addressLength + h .sizeLength in
@@ -84,6 +83,9 @@ headerFields h n =
     exactly "total" pair (22 + m) (h .total) (h .repliesAt + h .replies) ∷
     between "T" four (32 + m) (h .overall) 0 (flag 8 h * 4294967295) ∷
     exactly "the file" whole 0 n (h .total) ∷ []
+
+abbrev pub heading : Header → ℕ → List Field
+heading h n = headed h n ∷ headerFields h (usesOf (h .call)) n
 
 -- An unused field is zero; of any other every number is right.
 abbrev pub zeroWhere : Bool → Option ℕ
@@ -107,7 +109,7 @@ eventFields h l = entriesFields (formIn h) (h .eventsAt) 0 (entries (formIn h) (
 
 -- Every test of the layout, in the order of the log.
 abbrev pub fields : List ℕ → List Field
-fields l = let h = headerOf l in headed h (length l) ∷ headerFields h (length l) ++ eventFields h l
+fields l = let h = headerOf l in heading h (length l) ++ eventFields h l
 
 abbrev pub first : List Field → Option Field
 first [] = none
