@@ -17,7 +17,9 @@ use Rattle.exchange.proofs.Entries.{few-entries}
 use Rattle.calls.specs.Meaning.{isRefused}
 use Rattle.log_line.proofs.Longest.{line-fits}
 use Rattle.text.specs.Written.{put}
-use Rattle.telling.specs.Telling.{Told, toldIn, linesOf, heardIn, byRefusal, callText, soundText, unsound, telling, story}
+use Rattle.log_fields.specs.Words.{offLine}
+use Rattle.log_fields.proofs.Promises.{longest}
+use Rattle.telling.specs.Telling.{Told, toldIn, linesOf, heardIn, byRefusal, callText, soundText, telling, story}
 use Rattle.telling.specs.Words.{declined}
 use Rattle.telling.proofs.Fitting.{joined-long, tell-long, entries-long, begins-long, checks-long, concludes-long, declined-long}
 use Rattle.text.specs.Written.{Adds}
@@ -56,17 +58,13 @@ module _ (l : List ℕ) where
       go true e = rw (← not-made (answerOf l .outcome) (callText x (answerOf l)) e) (omega (arith, declined-long))
       go false e = rw (← made-one (answerOf l .outcome) (callText x (answerOf l)) e) (made-long e)
 
-  unsound-long : length unsound ≤ 155000
-  unfolding unsound
-  unsound-long = omega arith
-
   telling-long : length (telling l) ≤ 155000
   unfolding telling
   telling-long = go (layoutOk l)
     where
-      go : (b : Bool) → length (cond b (soundText l) unsound) ≤ 155000
+      go : (b : Bool) → length (cond b (soundText l) (offLine l)) ≤ 155000
       go true = sound-long
-      go false = unsound-long
+      go false = omega (arith, longest l)
 
   pub story-long : ((i : ℕ) → getD l i 0 < 256) → length (story l) ≤ 163840
   unfolding story
@@ -86,7 +84,7 @@ module _ (l before : List ℕ) where
 
 -- By whether the layout is sound.
 module _ (l : List ℕ) where
-  pub unsound-told : layoutOk l ≡ false → unsound ≡ telling l
+  pub unsound-told : layoutOk l ≡ false → offLine l ≡ telling l
   unfolding telling
   unsound-told e = rw e
 

@@ -1,6 +1,7 @@
 // The story of a log, written into a lent buffer. What it is, is `story` of `telling`.
 use log_call::Recorded;
 use log_call::recorded_in;
+use off_field::put_off;
 use sound::put_sound;
 use text::Written;
 use text::append;
@@ -26,11 +27,7 @@ fn put_telling(text: &mut [u8], log: &[u8]) -> usize
     ensures { λ r. ⌜ Adds (telling (now (log .entry))) (now (text .entry)) 0 r (now (text .exit)) ⌝ }
 {
     match recorded_in(log) {
-        Recorded::BadLog => append(
-            text,
-            0,
-            b"This is no log: a field of its header or of an event is off.\n",
-        ),
+        Recorded::BadLog => put_off(text, 0, log),
         Recorded::Call(h, ask) => put_sound(text, log, h, ask),
     }
 }

@@ -20,7 +20,11 @@ use Rattle.rules.proofs.Turns as Turns
 use Rattle.rules.proofs.Turns.{finish-late}
 use Rattle.telling.specs.Promises.{LastLine, readIn, unreadIn, InOrder, CountsThem, Over, Follows, TellsTheState}
 use Rattle.telling.specs.Story.{Line, read, late, over, unread, within, silent, cut, tell}
-use Rattle.telling.specs.Telling.{toldIn, exchangeText, heardIn, callText, byRefusal, soundText, unsound, telling, story}
+use Rattle.telling.specs.Telling.{toldIn, exchangeText, heardIn, callText, byRefusal, soundText, telling, story}
+use Rattle.log_fields.specs.Fields.{Field, firstOff}
+use Rattle.log_fields.specs.Promises.{none?}
+use Rattle.log_fields.specs.Words.{found, should, offText, textOf, offLine}
+use Rattle.log_fields.proofs.Promises.{promises}
 use Rattle.telling.specs.Checks.{checksText}
 use Rattle.telling.specs.Words.{concludes, declined}
 use Rattle.telling.proofs.Ways.{tell-none, tell-late, tell-on, tell-ends}
@@ -51,25 +55,31 @@ by-refusal (transport n) bs h = h
 by-refusal (fault f) bs h = h
 by-refusal (refused n) bs h = declined-ends
 
+point-ends : Ends (ascii ".\n")
+unfolding Ends
+point-ends = (ascii ".", refl)
+
 behind : (a b : List ℕ) → Ends b → Ends (a ++ b)
 unfolding Ends
 behind a b h = (a ++ h .0, ap (λ (x : List ℕ). a ++ x) (h .1) ∙ sym (append-assoc a (h .0) (10 ∷ [])))
 
-unsound-ends : Ends unsound
-unfolding Ends unsound
-unsound-ends = (ascii "This is no log: a field of its header or of an event is off.", refl)
+-- Of a bad log a field is off, and its line ends as every line does.
+off-ends : (f : Option Field) → none? f ≡ false → Ends (textOf f)
+unfolding offText
+off-ends none e = absurd (true≢false e)
+off-ends (some f) e = behind (ascii "This is no log: " ++ f .name ++ found (f .read) (f .at) (f .found) ++ should (f .least) (f .most)) (ascii ".\n") point-ends
 
 telling-ends : (l : List ℕ) → Ends (telling l)
-unfolding telling
-telling-ends l = go (layoutOk l)
+unfolding telling offLine
+telling-ends l = go (layoutOk l) refl
   where
     sound : Ends (soundText l)
     sound = let x = toldIn l in
         by-refusal (answerOf l .outcome) (callText x (answerOf l)) (behind (exchangeText x ++ checksText (x .strict) (x .call) (answerOf l .reply .bytes) (heardIn x) (answerOf l .outcome)) (concludes (answerOf l)) (concludes-ends (answerOf l)))
 
-    go : (b : Bool) → Ends (cond b (soundText l) unsound)
-    go true = sound
-    go false = unsound-ends
+    go : (b : Bool) → layoutOk l ≡ b → Ends (cond b (soundText l) (offLine l))
+    go true e = sound
+    go false e = off-ends (firstOff l) (sym (promises .decides l) ∙ e)
 
 pub last-line : LastLine
 unfolding story Ends

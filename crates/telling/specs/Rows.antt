@@ -135,7 +135,7 @@ ending =
     row (logOf 3 3 0 2 0 0 0 [] [])
     ("The call is not made: what the log asks breaks a limit, and the last two digits say which." ∷ []) ∷
     row []
-    ("This is no log: a field of its header or of an event is off." ∷ []) ∷ []
+    ("This is no log: the file has 0 bytes and should have 36 or more." ∷ []) ∷ []
 
 abbrev pub lines : List String → List ℕ
 lines [] = []

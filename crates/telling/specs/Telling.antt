@@ -7,9 +7,9 @@ use Rattle.rules.specs.Answers.{Outcome, positive, suppressed, negative, timeou
 use Rattle.rules.specs.Calls.{Call, requestOf}
 use Rattle.rules.specs.Client.{asked, entriesIn, eventsIn}
 use Rattle.rules.specs.Exchange.{start, exchange}
-use Rattle.rules.specs.Lines.{ascii}
 use Rattle.rules.specs.Logs.{Header, headerOf, flag, callOf, settingOf, lentOf, layoutOk, answerOf, lineOf}
 use Rattle.rules.specs.Settings.{Setting, Lent}
+use Rattle.log_fields.specs.Words.{offLine}
 use Rattle.telling.specs.Story.{Line, tell}
 use Rattle.telling.specs.Checks.{checksText}
 use Rattle.telling.specs.Words.{joined, begins, concludes, declined}
@@ -61,13 +61,9 @@ callText x y = exchangeText x ++ checksText (x .strict) (x .call) (y .reply .byt
 abbrev pub soundText : List ℕ → List ℕ
 soundText l = byRefusal (answerOf l .outcome) (callText (toldIn l) (answerOf l))
 
--- A log whose layout is not sound.
-unfoldable pub unsound : List ℕ
-unsound = ascii "This is no log: a field of its header or of an event is off.\n"
-
--- What stands before `udslog`'s line.
+-- What stands before `udslog`'s line. "For a bad log it says the first field that is off and what it should be".
 unfoldable pub telling : List ℕ → List ℕ
-telling l = cond (layoutOk l) (soundText l) unsound
+telling l = cond (layoutOk l) (soundText l) (offLine l)
 
 -- "its last line is `udslog`'s line for every input"
 unfoldable pub story : List ℕ → List ℕ

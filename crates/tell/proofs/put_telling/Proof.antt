@@ -1,8 +1,7 @@
--- `put_telling` meets its contract.
+-- `tell::put_telling` meets its contract.
 use mathlib.Core.Path.{subst}
 use Rattle.log_call.specs.Asking.{RecordedIn}
-use Rattle.telling.specs.Telling.{unsound}
-use Rattle.text.proofs.Adding.{appends, saying}
+use Rattle.text.proofs.Adding.{saying}
 use Rattle.tell.proofs.Room.{unsound-told, sound-told}
 use borrow.Author.Needs.{needs}
 use Rattle.tell.proofs.put_telling.Statement.{statement}
@@ -14,17 +13,14 @@ recorded-in-requires c κs = search needs
 enum-told : tie.Need-enum-told
 enum-told c = search needs
 
-slice-aggregate-append : tie.Need-slice-aggregate-append
-slice-aggregate-append c = search needs
-
-append-requires : tie.Need-append-requires
-append-requires c κs = search needs
+put-off-requires : tie.Need-put-off-requires
+put-off-requires c κs = search needs
 
 enum-known-h : tie.Need-enum-known-h
 enum-known-h c = search needs
 
 put-sound-requires : tie.Need-put-sound-requires
-put-sound-requires c κs =
+put-sound-requires c κs = 
     let at-h = c .before .before in
     let at-recorded-in = at-h .before .before in
     let at-args = at-recorded-in .before .before .before in
@@ -34,21 +30,20 @@ same-length : tie.Need-same-length
 same-length c = search needs
 
 returns : tie.Need-returns
-unfolding unsound
-returns c =
-    let at-append = c .before .before in
-    let at-enum-told = at-append .before .before .before in
+returns c = 
+    let at-put-off = c .before .before in
+    let at-enum-told = at-put-off .before .before in
     let at-recorded-in = at-enum-told .before .before in
     let at-args = at-recorded-in .before .before .before in
     saying
     (unsound-told (at-args .args .log .now) (subst (RecordedIn (at-args .args .log .now)) (at-enum-told .enum-told .given .1) (at-recorded-in .recorded-in .ensures)))
-    (appends (at-append .append .ensures))
+    (at-put-off .put-off .ensures)
 
 same-length-2 : tie.Need-same-length-2
 same-length-2 c = search needs
 
 returns-2 : tie.Need-returns-2
-returns-2 c =
+returns-2 c = 
     let at-put-sound = c .before .before in
     let at-h = at-put-sound .before .before .before in
     let at-recorded-in = at-h .before .before in
@@ -63,8 +58,7 @@ put-telling-spec =
     (tie.spec
     recorded-in-requires
     enum-told
-    slice-aggregate-append
-    append-requires
+    put-off-requires
     enum-known-h
     put-sound-requires
     same-length
