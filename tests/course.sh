@@ -17,7 +17,7 @@ while IFS= read -r exercise && IFS= read -r command && IFS= read -r line && IFS=
     [ -n "${words#    }" ] && count=$((count + 1))
 done < <(tail -n +4 course/answers.txt)
 counted() { echo "$count"; }
-try "course: every answer of the list was tried" 0 14 "" counted
+try "course: every answer of the list was tried" 0 15 "" counted
 
 # Each log has a story that ends in udslog's line, and a picture.
 stories() {

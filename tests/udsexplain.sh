@@ -35,15 +35,40 @@ examples() {
     echo "$lines logs"
 }
 try "udsexplain: every example ends in udslog's line and has a picture" 0 "21 logs" "" examples
+# Each log after its length, as four bytes; each line of `expected` is udslog's.
+gate_list() {
+    python3 - "$(scripts/program udsexplain)" scripts/run "$1" <<'PROGRAM'
+import struct, subprocess, sys
+
+program, run, name = sys.argv[1:]
+data = open(f"crates/replay/data/{name}.bin", "rb").read()
+at, told = 0, 0
+for line in open(f"crates/replay/data/{name}.expected"):
+    (size,) = struct.unpack_from(">I", data, at)
+    log = data[at + 4 : at + 4 + size]
+    at += 4 + size
+    story = subprocess.run([run, program], input=log, capture_output=True).stdout.decode()
+    if not story.endswith("\n" + line):
+        print("another last line:", log.hex(), line, story, sep="\n")
+    told += 1
+print(told, "logs")
+PROGRAM
+}
+try "udsexplain: every log of the gate's list ends in its line" 0 "$(wc -l <crates/replay/data/logs.expected) logs" "" gate_list logs
+try "udsexplain: every log with addresses, too" 0 "$(wc -l <crates/replay/data/addressed.expected) logs" "" gate_list addressed
 wide() { for file in examples/*.hex; do scripts/hex-to-log <"$file" | ./udsexplain | sed '$d' | grep -v '\.\. (' | awk 'length > 100'; done; echo none; }
 try "udsexplain: no line of an example with short bytes is wider than 100 columns" 0 none "" wide
 
 # Input that is no log.
 empty() { ./udsexplain </dev/null; }
 zeros() { timeout 20 ./udsexplain </dev/zero; }
-bad=$'This is no log: a field of its header or of an event is off.\nbadlog 0 0 0 -'
-try "udsexplain: empty input" 0 "$bad" "" empty
-try "udsexplain: zeros without an end" 0 "$bad" "" zeros
+try "udsexplain: empty input" 0 $'This is no log: the file has 0 bytes and should have 36 or more.\nbadlog 0 0 0 -' "" empty
+try "udsexplain: zeros without an end" 0 $'This is no log: version (byte 0) is 0 and should be 1 to 2.\nbadlog 0 0 0 -' "" zeros
+cut_short() { head -c 62 "$notice" | ./udsexplain; }
+try "udsexplain: a log that lost its last two bytes" 0 $'This is no log: the file has 62 bytes and should have 64.\nbadlog 0 0 0 -' "" cut_short
+# Byte 42 is the offset of the first event, an idle.
+off_event() { scripts/hex-to-log <examples/11-idle-does-not-restart.hex | python3 -c 'import sys; b = bytearray(sys.stdin.buffer.read()); b[43] = 5; sys.stdout.buffer.write(b)' | ./udsexplain; }
+try "udsexplain: an event's field that is off" 0 $'This is no log: event 1: offset (byte 42) is 5 and should be 0.\nbadlog 0 0 0 -' "" off_event
 directory() { ./udsexplain "$room"; }
 missing() { ./udsexplain "$room/none"; }
 full() { ./udsexplain "$notice" >/dev/full; }
