@@ -20,7 +20,7 @@ enum-known-h : tie.Need-enum-known-h
 enum-known-h c = search needs
 
 put-sound-requires : tie.Need-put-sound-requires
-put-sound-requires c κs = 
+put-sound-requires c κs =
     let at-h = c .before .before in
     let at-recorded-in = at-h .before .before in
     let at-args = at-recorded-in .before .before .before in
@@ -30,7 +30,7 @@ same-length : tie.Need-same-length
 same-length c = search needs
 
 returns : tie.Need-returns
-returns c = 
+returns c =
     let at-put-off = c .before .before in
     let at-enum-told = at-put-off .before .before in
     let at-recorded-in = at-enum-told .before .before in
@@ -43,7 +43,7 @@ same-length-2 : tie.Need-same-length-2
 same-length-2 c = search needs
 
 returns-2 : tie.Need-returns-2
-returns-2 c = 
+returns-2 c =
     let at-put-sound = c .before .before in
     let at-h = at-put-sound .before .before .before in
     let at-recorded-in = at-h .before .before in
