@@ -148,7 +148,8 @@ module _ (l : List ℕ) (h : Header) (is : h ≡ headerOf l) where
   pub short : length l < headerSize (formIn h) → fileText (length l) (headerSize (formIn h)) (ascii " or more.\n") ≡ offLine l
   unfolding offText
   short s =
-      joins-more (ascii "This is no log: ") (ascii "the file") (ascii " has ") (decimal (length l)) (ascii " bytes and should have ") (decimal (headerSize (formIn h))) (ascii " or more") (ascii ".\n") ∙
+      joins-more (ascii "This is no log: ") (ascii "the file") (ascii " has ") (decimal (length l)) (ascii " bytes and should have ")
+      (decimal (headerSize (formIn h))) (ascii " or more") (ascii ".\n") ∙
       sym (rw (lt-leb (headerSize (formIn h)) (length l) s)) ∙
       read-as
 

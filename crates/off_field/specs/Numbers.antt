@@ -54,6 +54,12 @@ names =
     ascii "total" ∷
     ascii "T" ∷ []
 
+-- The same in one text, of which each name is a part.
+abbrev pub inOne : List ℕ
+inOne =
+    ascii "version call flags flag-16 value sub-function address-length size-length " ++
+    ascii "listening-address arguments-count arguments-offset events-offset replies-offset total T"
+
 -- Behind a name.
 abbrev pub behind : Numbers → List ℕ
 behind f = holds (f .at) (f .found) ++ should (f .least) (some (f .most)) ++ ascii ".\n"

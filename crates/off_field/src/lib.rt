@@ -16,6 +16,7 @@ use logs::layout::uses_of;
 use logs::reader::read_header;
 use text::append;
 use text::append_decimal;
+use wire::part;
 ghost use mathlib.Core.Bool.{false};
 ghost use mathlib.Core.List.{[], _++_, map};
 ghost use mathlib.Core.Option.{some};
@@ -23,13 +24,13 @@ ghost use mathlib.Core.Path.{_≡_};
 ghost use Prim.Native.Nat.{_+_, _*_, _≤_, _<_};
 ghost use lib.ListN.{getD, length};
 ghost use Rattle.rules.specs.Events.{eventSize, entries};
-ghost use Rattle.rules.specs.Lines.{ascii};
-ghost use Rattle.rules.specs.Logs.{usesOf, eventOk};
+ghost use Rattle.rules.specs.Lines.{ascii, decimal};
+ghost use Rattle.rules.specs.Logs.{usesOf, eventOk, area};
 ghost use Rattle.exchange.specs.Meaning.{formOf, entryOf};
 ghost use Rattle.logs.specs.Layout.{said};
 ghost use Rattle.log_fields.specs.Fields.{headerFields, entryFields, entriesFields, first};
 ghost use Rattle.log_fields.specs.Words.{should, holds, textOf, offLine};
-ghost use Rattle.off_field.specs.Numbers.{uses, meant, rowOf, firstOf, names, behind, fileText};
+ghost use Rattle.off_field.specs.Numbers.{uses, meant, rowOf, firstOf, names, inOne, behind, fileText};
 ghost use Rattle.text.specs.Written.{Adds};
 
 // Where a number stands, the number found there, and between which it should lie.
@@ -227,36 +228,41 @@ fn put_numbers(text: &mut [u8], at: usize, f: Numbers) -> usize
     append(text, g, b".\n")
 }
 
-fn put_name(text: &mut [u8], at: usize, i: usize) -> usize
-    ensures { λ r. ⌜ Adds (getD names i []) (now (text .entry)) at r (now (text .exit)) ⌝ }
+// Where a name stands among all of them, and how long it is.
+struct Span(usize, usize);
+
+fn name_at(i: usize) -> Span
+    ensures { λ r. ⌜ area inOne (r .0) (r .1) ≡ getD names i [] ⌝ }
 {
     match i {
-        0 => append(text, at, b"version"),
-        1 => append(text, at, b"call"),
-        2 => append(text, at, b"flags"),
-        3 => append(text, at, b"flag-16"),
-        4 => append(text, at, b"value"),
-        5 => append(text, at, b"sub-function"),
-        6 => append(text, at, b"address-length"),
-        7 => append(text, at, b"size-length"),
-        _ => put_place(text, at, i - 8),
+        0 => Span(0, 7),
+        1 => Span(8, 4),
+        2 => Span(13, 5),
+        3 => Span(19, 7),
+        4 => Span(27, 5),
+        5 => Span(33, 12),
+        6 => Span(46, 14),
+        7 => Span(61, 11),
+        8 => Span(73, 17),
+        9 => Span(91, 15),
+        10 => Span(107, 16),
+        11 => Span(124, 13),
+        12 => Span(138, 14),
+        13 => Span(153, 5),
+        14 => Span(159, 1),
+        _ => Span(0, 0),
     }
 }
 
-// From the listening address on.
-fn put_place(text: &mut [u8], at: usize, i: usize) -> usize
-    ensures { λ r. ⌜ Adds (getD names (8 + i) []) (now (text .entry)) at r (now (text .exit)) ⌝ }
+fn put_name(text: &mut [u8], at: usize, i: usize) -> usize
+    ensures { λ r. ⌜ Adds (getD names i []) (now (text .entry)) at r (now (text .exit)) ⌝ }
 {
-    match i {
-        0 => append(text, at, b"listening-address"),
-        1 => append(text, at, b"arguments-count"),
-        2 => append(text, at, b"arguments-offset"),
-        3 => append(text, at, b"events-offset"),
-        4 => append(text, at, b"replies-offset"),
-        5 => append(text, at, b"total"),
-        6 => append(text, at, b"T"),
-        _ => at,
-    }
+    let s = name_at(i);
+    let from = s.0;
+    let len = s.1;
+    let all =
+        b"version call flags flag-16 value sub-function address-length size-length listening-address arguments-count arguments-offset events-offset replies-offset total T";
+    append(text, at, part(all, from, len))
 }
 
 // Of a file's length: the least that it should be, and what stands behind that.
@@ -279,6 +285,16 @@ fn put_row(text: &mut [u8], at: usize, i: usize, f: Numbers) -> usize
     put_numbers(text, b, f)
 }
 
+// The line for a field of an event, by its number and the field's name.
+fn put_event_field(text: &mut [u8], at: usize, number: u64, name: &[u8], f: Numbers) -> usize
+    ensures { λ r. ⌜ Adds (ascii "This is no log: event " ++ decimal number ++ now (name .entry) ++ behind f) (now (text .entry)) at r (now (text .exit)) ⌝ }
+{
+    let a = append(text, at, b"This is no log: event ");
+    let b = append_decimal(text, a, number);
+    let c = append(text, b, name);
+    put_numbers(text, c, f)
+}
+
 // The line for an event with a field that is off: its number, and where it begins.
 fn put_event(text: &mut [u8], at: usize, number: u64, begins: u64, event: Event) -> usize
     requires { ⌜ (begins < 4294967296) × (eventOk (entryOf event) ≡ false) ⌝ }
@@ -286,26 +302,22 @@ fn put_event(text: &mut [u8], at: usize, number: u64, begins: u64, event: Event)
 {
     let offset = event.offset;
     let size = event.size;
-    let a = append(text, at, b"This is no log: event ");
-    let b = append_decimal(text, a, number);
     if offset != 0 {
-        let c = append(text, b, b": offset");
         let f = Numbers {
             at: begins + 6,
             found: offset as u64,
             least: 0,
             most: 0,
         };
-        return put_numbers(text, c, f);
+        return put_event_field(text, at, number, b": offset", f);
     }
-    let c = append(text, b, b": length");
     let f = Numbers {
         at: begins + 8,
         found: size as u64,
         least: 0,
         most: 0,
     };
-    put_numbers(text, c, f)
+    put_event_field(text, at, number, b": length", f)
 }
 
 // The line for the first event with a field that is off; the events begin at index `from` of the log.

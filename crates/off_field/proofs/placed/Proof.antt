@@ -1,3 +1,4 @@
+-- `off_field::placed` meets its contract.
 use Prim.Native.Nat.{_*_, _≤_}
 use native.Mathlib.Omega.{arith}
 use mathlib.Core.Path.{_≡_}
@@ -9,12 +10,6 @@ use Rattle.logs.proofs.Layouts.{above}
 use borrow.Author.Needs.{needs}
 use Rattle.off_field.proofs.placed.Statement.{statement}
 use Rattle.off_field.proofs.placed.Tie as tie
-use Rattle.off_field.proofs.placed.Reads as reads
-use Rattle.off_field.proofs.placed.Lts as lts
-use Rattle.exchange.proofs.events.event_size.Reads as event-size-reads
-use Rattle.logs.proofs.header.form_in.Reads as form-in-reads
-use Rattle.logs.proofs.header.header_size.Reads as header-size-reads
-use Rattle.logs.proofs.header.moved_by.Reads as moved-by-reads
 
 little : (c : tie.After-moved-by) → c .moved-by .result ≤ 1
 little c = rw (c .moved-by .ensures) (moved-little (formOf (c .before .form-in .result)))
@@ -22,178 +17,168 @@ little c = rw (c .moved-by .ensures) (moved-little (formOf (c .before .form-in .
 sized : (c : tie.After-header-size) → c .header-size .result ≤ 37
 sized c = rw (c .header-size .ensures) (omega (arith, moved-little (formIn (said (c .before .before .before .args .h)))))
 
-few : (c : tie.After-event-size) → let n = c .before .before .before .before .before .before .before .args .h .events in n * c .event-size .result ≤ n * 12
+few : (c : tie.After-event-size) →
+    let n = c .before .before .before .before .before .before .before .args .h .events in n * c .event-size .result ≤ n * 12
 few c =
     rw (c .event-size .ensures)
     (few-bytes (formOf (c .before .before .before .before .before .before .form-in .result)) (c .before .before .before .before .before .before .before .args .h .events))
 
--- src/lib.rt:67:9
 form-in-requires : tie.Need-form-in-requires
 form-in-requires c κs = search needs
 
--- src/lib.rt:68:17
 moved-by-requires : tie.Need-moved-by-requires
 moved-by-requires c κs = search needs
 
--- src/lib.rt:69:16
 header-size-requires : tie.Need-header-size-requires
 header-size-requires c κs = search needs
 
--- src/lib.rt:72:24
 cast-both : tie.Need-cast-both
 cast-both c = search needs
 
--- src/lib.rt:72:50
 cast-both-2 : tie.Need-cast-both-2
 cast-both-2 c = search needs
 
--- src/lib.rt:72:24
 add-both : tie.Need-add-both
 add-both c = search needs
 
--- src/lib.rt:73:27
 add-t13 : tie.Need-add-t13
 add-t13 c = omega (arith, little (c .before .before .before .before))
 
--- src/lib.rt:73:46
 cast-t14 : tie.Need-cast-t14
 cast-t14 c = search needs
 
--- src/lib.rt:73:92
 cast-t17 : tie.Need-cast-t17
 cast-t17 c = search needs
 
--- src/lib.rt:73:92
 mul-t18 : tie.Need-mul-t18
 mul-t18 c = search needs
 
--- src/lib.rt:73:85
 add-t19 : tie.Need-add-t19
 add-t19 c = search needs
 
--- src/lib.rt:75:28
 add-t20 : tie.Need-add-t20
 add-t20 c = omega (arith, little (c .before .before))
 
--- src/lib.rt:75:47
 cast-t21 : tie.Need-cast-t21
 cast-t21 c = search needs
 
--- src/lib.rt:77:33
 cast-should : tie.Need-cast-should
 cast-should c = search needs
 
--- src/lib.rt:77:26
 add-should : tie.Need-add-should
 add-should c = omega (arith, sized (c .before .before))
 
--- src/lib.rt:78:27
 add-t22 : tie.Need-add-t22
 add-t22 c = omega (arith, little (c .before .before .before))
 
--- src/lib.rt:78:46
 cast-t23 : tie.Need-cast-t23
 cast-t23 c = search needs
 
--- src/lib.rt:81:26
 cast-should-2 : tie.Need-cast-should-2
 cast-should-2 c = search needs
 
--- src/lib.rt:81:47
 cast-should-3 : tie.Need-cast-should-3
 cast-should-3 c = search needs
 
--- src/lib.rt:81:65
 event-size-requires : tie.Need-event-size-requires
 event-size-requires c κs = search needs
 
--- src/lib.rt:81:47
 mul-should : tie.Need-mul-should
 mul-should c = omega (arith, few c)
 
--- src/lib.rt:81:26
 add-should-2 : tie.Need-add-should-2
 add-should-2 c = omega (arith, few c)
 
--- src/lib.rt:82:27
 add-t24 : tie.Need-add-t24
 add-t24 c = omega (arith, little (c .before .before .before .before .before))
 
--- src/lib.rt:82:46
 cast-t28 : tie.Need-cast-t28
 cast-t28 c = omega (arith, c .struct-known10 .given)
 
--- src/lib.rt:85:26
 cast-should-4 : tie.Need-cast-should-4
 cast-should-4 c = search needs
 
--- src/lib.rt:85:48
 cast-should-5 : tie.Need-cast-should-5
 cast-should-5 c = search needs
 
--- src/lib.rt:85:26
 add-should-3 : tie.Need-add-should-3
 add-should-3 c = search needs
 
--- src/lib.rt:86:27
 add-t29 : tie.Need-add-t29
 add-t29 c = omega (arith, little (c .before .before .before .before))
 
--- src/lib.rt:86:46
 cast-t30 : tie.Need-cast-t30
 cast-t30 c = omega (arith, c .struct-known13 .given)
 
--- src/lib.rt:88:28
 add-t31 : tie.Need-add-t31
 add-t31 c = omega (arith, little (c .before .before))
 
--- src/lib.rt:88:47
 cast-t32 : tie.Need-cast-t32
 cast-t32 c = search needs
 
--- src/lib.rt:88:81
 cast-t35 : tie.Need-cast-t35
 cast-t35 c = search needs
 
--- src/lib.rt:88:81
 mul-t36 : tie.Need-mul-t36
 mul-t36 c = search needs
 
--- src/lib.rt:89:55
 cast-t38 : tie.Need-cast-t38
 cast-t38 c = search needs
 
--- src/lib.rt:89:77
 cast-t39 : tie.Need-cast-t39
 cast-t39 c = search needs
 
--- src/lib.rt:63:1
 returns : tie.Need-returns
-returns c = rw (c .before .before .before .before .match .keys1, c .before .before .before .before .before .before .moved-by .ensures, c .before .before .before .before .before .before .before .form-in .ensures)
+returns c =
+    let at-match = c .before .before .before .before in
+    let at-moved-by = at-match .before .before in
+    let at-form-in = at-moved-by .before in
+    rw (at-match .match .keys1, at-moved-by .moved-by .ensures, at-form-in .form-in .ensures)
 
--- src/lib.rt:63:1
 returns-2 : tie.Need-returns-2
-returns-2 c = rw (c .before .match .keys2, c .before .before .header-size .ensures, c .before .before .before .moved-by .ensures, c .before .before .before .before .form-in .ensures)
+returns-2 c =
+    let at-match = c .before in
+    let at-header-size = at-match .before in
+    let at-moved-by = at-header-size .before in
+    let at-form-in = at-moved-by .before in
+    rw (at-match .match .keys2, at-header-size .header-size .ensures, at-moved-by .moved-by .ensures, at-form-in .form-in .ensures)
 
--- src/lib.rt:63:1
 returns-3 : tie.Need-returns-3
-returns-3 c = rw (c .before .before .match .keys3, c .before .before .before .header-size .ensures, c .before .before .before .before .moved-by .ensures, c .before .before .before .before .before .form-in .ensures)
+returns-3 c =
+    let at-match = c .before .before in
+    let at-header-size = at-match .before in
+    let at-moved-by = at-header-size .before in
+    let at-form-in = at-moved-by .before in
+    rw (at-match .match .keys3, at-header-size .header-size .ensures, at-moved-by .moved-by .ensures, at-form-in .form-in .ensures)
 
--- src/lib.rt:63:1
 returns-4 : tie.Need-returns-4
-returns-4 c = rw (c .before .before .before .before .match .keys4, c .before .event-size .ensures, c .before .before .before .before .before .before .moved-by .ensures, c .before .before .before .before .before .before .before .form-in .ensures)
+returns-4 c =
+    let at-event-size = c .before in
+    let at-match = at-event-size .before .before .before in
+    let at-moved-by = at-match .before .before in
+    let at-form-in = at-moved-by .before in
+    rw (at-match .match .keys4, at-event-size .event-size .ensures, at-moved-by .moved-by .ensures, at-form-in .form-in .ensures)
 
--- src/lib.rt:63:1
 returns-5 : tie.Need-returns-5
-returns-5 c = rw (c .before .before .before .match .keys5, c .before .before .before .before .before .moved-by .ensures, c .before .before .before .before .before .before .form-in .ensures)
+returns-5 c =
+    let at-match = c .before .before .before in
+    let at-moved-by = at-match .before .before in
+    let at-form-in = at-moved-by .before in
+    rw (at-match .match .keys5, at-moved-by .moved-by .ensures, at-form-in .form-in .ensures)
 
--- src/lib.rt:63:1
 returns-6 : tie.Need-returns-6
-returns-6 c = rw (c .before .before .match .keys6, c .before .before .before .before .moved-by .ensures, c .before .before .before .before .before .form-in .ensures)
+returns-6 c =
+    let at-match = c .before .before in
+    let at-moved-by = at-match .before .before in
+    let at-form-in = at-moved-by .before in
+    rw (at-match .match .keys6, at-moved-by .moved-by .ensures, at-form-in .form-in .ensures)
 
--- src/lib.rt:63:1
 returns-7 : tie.Need-returns-7
-returns-7 c = let k : c .before .before .before .before .before .before .args .i ≡ 6 = omega (arith, c .before .before .before .before .before .before .pre, above (c .before .before .before .before .before .before .args .i) 6 (c .before .before .match .rest)) in rw k
+returns-7 c =
+    let at-match = c .before .before in
+    let start = at-match .before .before .before .before in
+    let k : start .args .i ≡ 6 = omega (arith, start .pre, above (start .args .i) 6 (at-match .match .rest)) in
+    rw k
 
 pub placed-spec : {M : Type 1} → statement M
 placed-spec =

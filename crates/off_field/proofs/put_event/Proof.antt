@@ -1,102 +1,70 @@
-use native.Mathlib.Omega.{arith}
-use Rattle.text.proofs.Adding.{appends, both, saying}
+-- `off_field::put_event` meets its contract.
+use Rattle.text.proofs.Adding.{saying}
 use Rattle.exchange.specs.Meaning.{entryOf}
 use Rattle.off_field.proofs.Events.{offset-line, length-line}
 use borrow.Author.Needs.{needs}
 use Rattle.off_field.proofs.put_event.Statement.{statement}
 use Rattle.off_field.proofs.put_event.Tie as tie
-use Rattle.off_field.proofs.put_event.Reads as reads
-use Rattle.off_field.proofs.put_event.Lts as lts
-use Rattle.off_field.proofs.put_numbers.Reads as put-numbers-reads
-use Rattle.text.proofs.append.Reads as append-reads
-use Rattle.text.proofs.append_decimal.Reads as append-decimal-reads
 
--- src/lib.rt:209:30
-slice-aggregate-append : tie.Need-slice-aggregate-append
-slice-aggregate-append c = search needs
+add-t13 : tie.Need-add-t13
+add-t13 c = search needs
 
--- src/lib.rt:209:9
-append-requires : tie.Need-append-requires
-append-requires c κs = search needs
+cast-t14 : tie.Need-cast-t14
+cast-t14 c = search needs
 
--- src/lib.rt:210:9
-append-decimal-requires : tie.Need-append-decimal-requires
-append-decimal-requires c κs = search needs
+slice-aggregate-put-event-field : tie.Need-slice-aggregate-put-event-field
+slice-aggregate-put-event-field c = search needs
 
--- src/lib.rt:212:33
-slice-aggregate-append-2 : tie.Need-slice-aggregate-append-2
-slice-aggregate-append-2 c = search needs
+put-event-field-requires : tie.Need-put-event-field-requires
+put-event-field-requires c κs = search needs
 
--- src/lib.rt:212:13
-append-requires-2 : tie.Need-append-requires-2
-append-requires-2 c κs = search needs
-
--- src/lib.rt:213:31
-add-t28 : tie.Need-add-t28
-add-t28 c = search needs
-
--- src/lib.rt:213:50
-cast-t29 : tie.Need-cast-t29
-cast-t29 c = search needs
-
--- src/lib.rt:214:9
-put-numbers-requires : tie.Need-put-numbers-requires
-put-numbers-requires c κs = search needs
-
--- src/lib.rt:214:9
 same-length : tie.Need-same-length
 same-length c = search needs
 
--- src/lib.rt:214:9
 returns : tie.Need-returns
-returns c = saying (offset-line (c .before .before .before .before .before .before .before .before .before .before .before .before .before .before .before .before .before .before .before .before .args .number) (c .before .before .before .before .before .before .before .before .before .before .before .before .before .before .before .before .before .before .before .before .args .begins) (entryOf (c .before .before .before .before .before .before .before .before .before .before .before .before .before .before .before .before .before .before .before .before .args .event)) (c .before .before .before .before .before .before .before .before .before .before .before .before .before .before .before .before .before .before .before .before .pre .1) (c .before .before .before .before .before .before .before .before .before .if1 .taken)) (both (both (both (appends (c .before .before .before .before .before .before .before .before .before .before .before .before .before .before .before .before .append .ensures)) (appends (c .before .before .before .before .before .before .before .before .before .before .before .before .append-decimal .ensures))) (appends (c .before .before .before .before .before .before .append2 .ensures))) (c .before .before .put-numbers .ensures))
+returns c =
+    let at-put-event-field = c .before .before in
+    let at-if1 = at-put-event-field .before .before .before in
+    let start = at-if1 .before .before in
+    saying (offset-line (start .args .number) (start .args .begins) (entryOf (start .args .event)) (start .pre .1)
+    (at-if1 .if1 .taken)) (at-put-event-field .put-event-field .ensures)
 
--- src/lib.rt:216:29
-slice-aggregate-append-3 : tie.Need-slice-aggregate-append-3
-slice-aggregate-append-3 c = search needs
+add-t19 : tie.Need-add-t19
+add-t19 c = search needs
 
--- src/lib.rt:216:9
-append-requires-3 : tie.Need-append-requires-3
-append-requires-3 c κs = search needs
+cast-t20 : tie.Need-cast-t20
+cast-t20 c = search needs
 
--- src/lib.rt:217:27
-add-t36 : tie.Need-add-t36
-add-t36 c = search needs
+slice-aggregate-put-event-field-2 : tie.Need-slice-aggregate-put-event-field-2
+slice-aggregate-put-event-field-2 c = search needs
 
--- src/lib.rt:217:46
-cast-t37 : tie.Need-cast-t37
-cast-t37 c = search needs
+put-event-field-requires-2 : tie.Need-put-event-field-requires-2
+put-event-field-requires-2 c κs = search needs
 
--- src/lib.rt:218:5
-put-numbers-requires-2 : tie.Need-put-numbers-requires-2
-put-numbers-requires-2 c κs = search needs
-
--- src/lib.rt:203:1
 same-length-2 : tie.Need-same-length-2
 same-length-2 c = search needs
 
--- src/lib.rt:203:1
 returns-2 : tie.Need-returns-2
-returns-2 c = saying (length-line (c .before .before .before .before .before .before .before .before .before .before .before .before .before .before .before .before .before .before .before .before .args .number) (c .before .before .before .before .before .before .before .before .before .before .before .before .before .before .before .before .before .before .before .before .args .begins) (entryOf (c .before .before .before .before .before .before .before .before .before .before .before .before .before .before .before .before .before .before .before .before .args .event)) (c .before .before .before .before .before .before .before .before .before .before .before .before .before .before .before .before .before .before .before .before .pre .1) (c .before .before .before .before .before .before .before .before .before .if1 .left)) (both (both (both (appends (c .before .before .before .before .before .before .before .before .before .before .before .before .before .before .before .before .append .ensures)) (appends (c .before .before .before .before .before .before .before .before .before .before .before .before .append-decimal .ensures))) (appends (c .before .before .before .before .before .before .append3 .ensures))) (c .before .before .put-numbers2 .ensures))
+returns-2 c =
+    let at-put-event-field2 = c .before .before in
+    let at-if1 = at-put-event-field2 .before .before .before in
+    let start = at-if1 .before .before in
+    saying (length-line (start .args .number) (start .args .begins) (entryOf (start .args .event)) (start .pre .1)
+    (at-if1 .if1 .left)) (at-put-event-field2 .put-event-field2 .ensures)
 
 pub put-event-spec : {M : Type 1} → statement M
 put-event-spec =
     tie.close
     (tie.spec
-    slice-aggregate-append
-    append-requires
-    append-decimal-requires
-    slice-aggregate-append-2
-    append-requires-2
-    add-t28
-    cast-t29
-    put-numbers-requires
+    add-t13
+    cast-t14
+    slice-aggregate-put-event-field
+    put-event-field-requires
     same-length
     returns
-    slice-aggregate-append-3
-    append-requires-3
-    add-t36
-    cast-t37
-    put-numbers-requires-2
+    add-t19
+    cast-t20
+    slice-aggregate-put-event-field-2
+    put-event-field-requires-2
     same-length-2
     returns-2)

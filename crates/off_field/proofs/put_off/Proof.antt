@@ -1,3 +1,4 @@
+-- `off_field::put_off` meets its contract.
 use Prim.Native.Nat.{ℕ}
 use native.Mathlib.Omega.{arith}
 use mathlib.Core.Path.{_∙_, ap}
@@ -11,101 +12,123 @@ use Rattle.off_field.proofs.Saying.{short, row-line, file-line, event-l
 use borrow.Author.Needs.{needs}
 use Rattle.off_field.proofs.put_off.Statement.{statement}
 use Rattle.off_field.proofs.put_off.Tie as tie
-use Rattle.off_field.proofs.put_off.Reads as reads
-use Rattle.off_field.proofs.put_off.Lts as lts
-use Rattle.logs.proofs.header.form_in.Reads as form-in-reads
-use Rattle.logs.proofs.header.header_size.Reads as header-size-reads
-use Rattle.logs.proofs.layout.events_of.Reads as events-of-reads
-use Rattle.logs.proofs.reader.read_header.Reads as read-header-reads
-use Rattle.off_field.proofs.first_row.Reads as first-row-reads
-use Rattle.off_field.proofs.put_events.Reads as put-events-reads
-use Rattle.off_field.proofs.put_file.Reads as put-file-reads
-use Rattle.off_field.proofs.put_row.Reads as put-row-reads
-use Rattle.off_field.proofs.row.Reads as row-reads
 
--- src/lib.rt:244:9
 read-header-requires : tie.Need-read-header-requires
 read-header-requires c κs = search needs
 
--- src/lib.rt:246:9
 header-size-requires : tie.Need-header-size-requires
 header-size-requires c κs = search needs
 
--- src/lib.rt:248:51
 slice-aggregate-put-file : tie.Need-slice-aggregate-put-file
 slice-aggregate-put-file c = search needs
 
--- src/lib.rt:248:9
 put-file-requires : tie.Need-put-file-requires
 put-file-requires c κs = search needs
 
--- src/lib.rt:248:9
 same-length : tie.Need-same-length
 same-length c = search needs
 
--- src/lib.rt:248:9
 returns : tie.Need-returns
-returns c = saying (ap (λ (k : ℕ). fileText (length (c .before .before .before .before .before .before .before .before .before .before .args .log .now)) k (ascii " or more.\n")) (c .before .before .before .before .before .before .header-size .ensures) ∙ short (c .before .before .before .before .before .before .before .before .before .before .args .log .now) (said (c .before .before .before .before .before .before .before .read-header .result)) (c .before .before .before .before .before .before .before .read-header .ensures) (omega (arith, c .before .before .before .before .before .before .header-size .ensures, c .before .before .before .before .before .if1 .taken))) (c .before .before .put-file .ensures)
+returns c =
+    let at-put-file = c .before .before in
+    let at-if1 = at-put-file .before .before .before in
+    let at-header-size = at-if1 .before in
+    let at-read-header = at-header-size .before in
+    let start = at-read-header .before .before .before in
+    saying (ap (λ (k : ℕ). fileText (length (start .args .log .now)) k (ascii " or more.\n"))
+    (at-header-size .header-size .ensures) ∙ short (start .args .log .now) (said (at-read-header .read-header .result))
+    (at-read-header .read-header .ensures) (omega (arith, at-header-size .header-size .ensures, at-if1 .if1 .taken)))
+    (at-put-file .put-file .ensures)
 
--- src/lib.rt:250:9
 first-row-requires : tie.Need-first-row-requires
 first-row-requires c κs = search needs
 
--- src/lib.rt:252:37
 row-requires : tie.Need-row-requires
 row-requires c κs = search needs
 
--- src/lib.rt:252:9
 put-row-requires : tie.Need-put-row-requires
 put-row-requires c κs = search needs
 
--- src/lib.rt:252:9
 same-length-2 : tie.Need-same-length-2
 same-length-2 c = search needs
 
--- src/lib.rt:252:9
 returns-2 : tie.Need-returns-2
-returns-2 c = saying (row-line (c .before .before .before .before .before .before .before .before .before .before .before .before .args .log .now) (said (c .before .before .before .before .before .before .before .before .before .read-header .result)) (c .before .before .before .before .before .before .before .before .before .read-header .ensures) (omega (arith, c .before .before .before .before .before .before .before .before .header-size .ensures, c .before .before .before .before .before .before .before .if1 .left)) (c .before .before .before .before .before .before .first-row .result) (c .before .before .before .before .before .before .first-row .ensures) (c .before .before .before .before .before .if2 .taken) (c .before .before .before .row .result) (c .before .before .before .row .ensures)) (c .before .before .put-row .ensures)
+returns-2 c =
+    let at-put-row = c .before .before in
+    let at-row = at-put-row .before in
+    let at-if2 = at-row .before .before in
+    let at-first-row = at-if2 .before in
+    let at-if1 = at-first-row .before in
+    let at-header-size = at-if1 .before in
+    let at-read-header = at-header-size .before in
+    let start = at-read-header .before .before .before in
+    saying (row-line (start .args .log .now) (said (at-read-header .read-header .result)) (at-read-header .read-header .ensures)
+    (omega (arith, at-header-size .header-size .ensures, at-if1 .if1 .left)) (at-first-row .first-row .result)
+    (at-first-row .first-row .ensures) (at-if2 .if2 .taken) (at-row .row .result) (at-row .row .ensures))
+    (at-put-row .put-row .ensures)
 
--- src/lib.rt:254:17
 cast-total : tie.Need-cast-total
 cast-total c = search needs
 
--- src/lib.rt:256:45
 slice-aggregate-put-file-2 : tie.Need-slice-aggregate-put-file-2
 slice-aggregate-put-file-2 c = search needs
 
--- src/lib.rt:256:9
 put-file-requires-2 : tie.Need-put-file-requires-2
 put-file-requires-2 c κs = search needs
 
--- src/lib.rt:256:9
 same-length-3 : tie.Need-same-length-3
 same-length-3 c = search needs
 
--- src/lib.rt:256:9
 returns-3 : tie.Need-returns-3
-returns-3 c = saying (file-line (c .before .before .before .before .before .before .before .before .before .before .before .before .before .before .args .log .now) (said (c .before .before .before .before .before .before .before .before .before .before .before .read-header .result)) (c .before .before .before .before .before .before .before .before .before .before .before .read-header .ensures) (omega (arith, c .before .before .before .before .before .before .before .before .before .before .header-size .ensures, c .before .before .before .before .before .before .before .before .before .if1 .left)) (c .before .before .before .before .before .before .before .before .first-row .result) (c .before .before .before .before .before .before .before .before .first-row .ensures) (c .before .before .before .before .before .if3 .taken)) (c .before .before .put-file2 .ensures)
+returns-3 c =
+    let at-put-file2 = c .before .before in
+    let at-if3 = at-put-file2 .before .before .before in
+    let at-first-row = at-if3 .before .before .before in
+    let at-if1 = at-first-row .before in
+    let at-header-size = at-if1 .before in
+    let at-read-header = at-header-size .before in
+    let start = at-read-header .before .before .before in
+    saying (file-line (start .args .log .now) (said (at-read-header .read-header .result)) (at-read-header .read-header .ensures)
+    (omega (arith, at-header-size .header-size .ensures, at-if1 .if1 .left)) (at-first-row .first-row .result)
+    (at-first-row .first-row .ensures) (at-if3 .if3 .taken)) (at-put-file2 .put-file2 .ensures)
 
--- src/lib.rt:258:26
 form-in-requires : tie.Need-form-in-requires
 form-in-requires c κs = search needs
 
--- src/lib.rt:258:51
 events-of-requires : tie.Need-events-of-requires
 events-of-requires c κs = search needs
 
--- src/lib.rt:258:5
 put-events-requires : tie.Need-put-events-requires
-put-events-requires c κs = rw (c .events-of .ensures) (omega (arith, few-events (said (c .before .before .before .before .before .before .before .before .before .read-header .result)) (c .before .before .before .before .before .before .before .before .before .before .before .before .args .log .now), c .before .before .before .before .struct-known .given))
+put-events-requires c κs =
+    let at-struct-known = c .before .before .before .before in
+    let at-read-header = at-struct-known .before .before .before .before .before in
+    let start = at-read-header .before .before .before in
+    rw (c .events-of .ensures) (omega (
+      arith,
+      few-events (said (at-read-header .read-header .result))
+          (start .args .log .now),
+      at-struct-known .struct-known .given,
+    ))
 
--- src/lib.rt:241:1
 same-length-4 : tie.Need-same-length-4
 same-length-4 c = search needs
 
--- src/lib.rt:241:1
 returns-4 : tie.Need-returns-4
-returns-4 c = saying (event-line (c .before .before .before .before .before .before .before .before .before .before .before .before .before .before .before .args .log .now) (said (c .before .before .before .before .before .before .before .before .before .before .before .before .read-header .result)) (c .before .before .before .before .before .before .before .before .before .before .before .before .read-header .ensures) (omega (arith, c .before .before .before .before .before .before .before .before .before .before .before .header-size .ensures, c .before .before .before .before .before .before .before .before .before .before .if1 .left)) (c .before .before .before .before .before .before .before .before .before .first-row .result) (c .before .before .before .before .before .before .before .before .before .first-row .ensures) (omega (arith, c .before .before .before .before .before .before .before .before .if2 .left, c .before .before .before .before .before .before .if3 .left)) (c .before .before .before .before .form-in .ensures) (c .before .before .before .events-of .ensures)) (c .before .before .put-events .ensures)
+returns-4 c =
+    let at-put-events = c .before .before in
+    let at-events-of = at-put-events .before in
+    let at-form-in = at-events-of .before in
+    let at-if3 = at-form-in .before .before in
+    let at-if2 = at-if3 .before .before in
+    let at-first-row = at-if2 .before in
+    let at-if1 = at-first-row .before in
+    let at-header-size = at-if1 .before in
+    let at-read-header = at-header-size .before in
+    let start = at-read-header .before .before .before in
+    saying (event-line (start .args .log .now) (said (at-read-header .read-header .result)) (at-read-header .read-header .ensures)
+    (omega (arith, at-header-size .header-size .ensures, at-if1 .if1 .left)) (at-first-row .first-row .result)
+    (at-first-row .first-row .ensures) (omega (arith, at-if2 .if2 .left, at-if3 .if3 .left)) (at-form-in .form-in .ensures)
+    (at-events-of .events-of .ensures)) (at-put-events .put-events .ensures)
 
 pub put-off-spec : {M : Type 1} → statement M
 put-off-spec =
