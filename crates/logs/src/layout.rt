@@ -18,9 +18,9 @@ ghost use Rattle.exchange.specs.Meaning.{formOf, entryOf};
 ghost use Rattle.logs.specs.Layout.{said, meant, dataBytes};
 
 // What a call uses, a row of `usesByCall` of `rules`: the largest value, sub and lengths, whether flag 16 is its own, and whether data may and must be present.
-struct Uses(u16, u8, u8, u8, u8, u8);
+pub struct Uses(pub u16, pub u8, pub u8, pub u8, pub u8, pub u8);
 
-fn uses_of(call: u8) -> Uses
+pub fn uses_of(call: u8) -> Uses
     ensures { λ r. ⌜ meant r ≡ usesOf call ⌝ }
 {
     match call {
@@ -58,7 +58,7 @@ pub fn all(tests: &[bool]) -> bool
 }
 
 // The largest listening address: none in version 1.
-fn most_listens(form: Form) -> u16
+pub fn most_listens(form: Form) -> u16
     ensures { λ r. ⌜ r ≡ mostListens (formOf form) ⌝ }
 {
     match form {
@@ -126,7 +126,7 @@ fn areas_ok(h: Header, n: usize) -> bool
 }
 
 // "kind 3 puts its number in length"; "an event of unknown kind has no unused field"
-fn event_ok(event: Event) -> bool
+pub fn event_ok(event: Event) -> bool
     ensures { λ r. ⌜ r ≡ eventOk (entryOf event) ⌝ }
 {
     let kind = event.kind;

@@ -2,3 +2,4 @@
 pub mod Writing
 pub mod Numerals
 pub mod Lines
+pub mod Adding

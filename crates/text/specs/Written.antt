@@ -1,5 +1,5 @@
 -- Text in a lent buffer.
-use Prim.Native.Nat.{ℕ, zero, suc, _+_, _*_}
+use Prim.Native.Nat.{ℕ, zero, suc, _+_, _*_, _≤_}
 use mathlib.Core.Bool.{cond}
 use mathlib.Core.List.{List, [], _∷_, _++_}
 use mathlib.Core.Path.{_≡_}
@@ -65,3 +65,7 @@ item word n bs = counted word n ++ hexBehind bs ++ (10 ∷ [])
 pub record Appended (bs before : List ℕ) (at r : ℕ) (after : List ℕ) : Type 0 where
   pub end : r ≡ cond (leb (at + length bs) (length before)) (at + length bs) at
   pub line : after ≡ cond (leb (at + length bs) (length before)) (put before at bs) before
+
+-- The same where there is room for it, and nothing said where there is none: a text of many pieces asks for its room once.
+pub record Adds (bs before : List ℕ) (at r : ℕ) (after : List ℕ) : Type 0 where
+  pub put : at + length bs ≤ length before → Put before at bs after r

@@ -234,3 +234,37 @@ pub fn put_item(line: &mut [u8], at: usize, word: &[u8], number: u64, bytes: &[u
     let c = put_bytes(line, b, bytes);
     put_byte(line, c, b'\n')
 }
+
+// Writes a word from index `at` on; the answer and what is left where there is no room are those of `put_counted`.
+pub fn append(line: &mut [u8], at: usize, word: &[u8]) -> usize
+    ensures { λ r. ⌜ Appended (now (word .entry)) (now (line .entry)) at r (now (line .exit)) ⌝ }
+{
+    if at > line.len() {
+        return at;
+    }
+    if word.len() > line.len() - at {
+        return at;
+    }
+    put_word(line, at, word)
+}
+
+// Writes a number, in the same way.
+pub fn append_decimal(line: &mut [u8], at: usize, number: u64) -> usize
+    ensures { λ r. ⌜ Appended (decimal number) (now (line .entry)) at r (now (line .exit)) ⌝ }
+{
+    if at > line.len() {
+        return at;
+    }
+    if decimal_length(number) > line.len() - at {
+        return at;
+    }
+    put_decimal(line, at, number)
+}
+
+// Writes a byte as a space and two digits, in the same way.
+pub fn append_byte(line: &mut [u8], at: usize, byte: u8) -> usize
+    ensures { λ r. ⌜ Appended (spaced (hex (byte ∷ []))) (now (line .entry)) at r (now (line .exit)) ⌝ }
+{
+    let digits = [b' ', digit(byte / 16), digit(byte % 16)];
+    append(line, at, &digits)
+}

@@ -1,0 +1,2 @@
+-- What the contracts of `off_field` cite besides `log_fields`.
+pub mod Numbers

@@ -1,0 +1,2 @@
+-- The proofs of the functions, and the laws that they cite.
+pub mod Wording
