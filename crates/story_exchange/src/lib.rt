@@ -109,7 +109,10 @@ fn put_going(
     before: u64,
     next: State,
 ) -> usize
-    ensures { λ r. ⌜ Adds (timed (event .time) (what listens (now (replies .entry)) (entryOf event)) ++ onText listens (entryOf event) before (next .read .all) (next .notices .all) (next .deadline)) (now (text .entry)) at r (now (text .exit)) ⌝ }
+    ensures { λ r. ⌜ Adds
+        (timed (event .time) (what listens (now (replies .entry)) (entryOf event)) ++
+        onText listens (entryOf event) before (next .read .all) (next .notices .all) (next .deadline))
+        (now (text .entry)) at r (now (text .exit)) ⌝ }
 {
     let a = put_event(text, at, listens, event, replies);
     put_on(text, a, listens, event, before, next)
@@ -128,7 +131,12 @@ fn put_settled(
     before: u64,
     settled: Settled,
 ) -> usize
-    ensures { λ r. ⌜ Adds (timed (event .time) (what (channel .listens) (now (replies .entry)) (entryOf event)) ++ endText (entryOf event) before (outcomeOf [] (settled .outcome)) (settled .read .all) (settled .time) ++ cutText (overallOf overall) (settled .time) ++ restText (formOf (channel .form)) (channel .listens) (now (events .entry)) (now (replies .entry)) first) (now (text .entry)) at r (now (text .exit)) ⌝ }
+    ensures { λ r. ⌜ Adds
+        (timed (event .time) (what (channel .listens) (now (replies .entry)) (entryOf event)) ++
+        endText (entryOf event) before (outcomeOf [] (settled .outcome)) (settled .read .all) (settled .time) ++
+        cutText (overallOf overall) (settled .time) ++
+        restText (formOf (channel .form)) (channel .listens) (now (events .entry)) (now (replies .entry)) first)
+        (now (text .entry)) at r (now (text .exit)) ⌝ }
 {
     let listens = channel.listens;
     let finish = settled.time;
@@ -149,7 +157,10 @@ fn put_silence(
     first: usize,
     state: State,
 ) -> usize
-    ensures { λ r. ⌜ Adds (silentText (overallOf overall) (state .deadline) (state .hush) ++ restText (formOf (channel .form)) (channel .listens) (now (events .entry)) (now (replies .entry)) first) (now (text .entry)) at r (now (text .exit)) ⌝ }
+    ensures { λ r. ⌜ Adds
+        (silentText (overallOf overall) (state .deadline) (state .hush) ++
+        restText (formOf (channel .form)) (channel .listens) (now (events .entry)) (now (replies .entry)) first)
+        (now (text .entry)) at r (now (text .exit)) ⌝ }
 {
     let a = put_silent(text, at, overall, state);
     put_rest(text, a, channel, events, replies, first)
@@ -166,7 +177,11 @@ pub fn put_exchange(
     events: &[u8],
     replies: &[u8],
 ) -> usize
-    ensures { λ r. ⌜ Adds (joined (channel .listens) (now (replies .entry)) (tell strict (askedOf asked) (overallOf overall) (channel .listens) (now (replies .entry)) (entries (formOf (channel .form)) (now (events .entry))) (rules.start (askedOf asked)))) (now (text .entry)) at r (now (text .exit)) ⌝ }
+    ensures { λ r. ⌜ Adds
+        (joined (channel .listens) (now (replies .entry))
+        (tell strict (askedOf asked) (overallOf overall) (channel .listens) (now (replies .entry))
+        (entries (formOf (channel .form)) (now (events .entry))) (rules.start (askedOf asked))))
+        (now (text .entry)) at r (now (text .exit)) ⌝ }
 {
     let form = channel.form;
     let listens = channel.listens;

@@ -61,15 +61,19 @@ text ask request address size events replies answer a =
     (guarded (ask .strict) a (overallOf (ask .overall)) (formOf (ask .channel .form)) (ask .channel .listens) events replies .outcome) (outcomeOf [] (answer .outcome)) ++
     concludes (answerOf [] answer)
 
-pub called : (ask : Ask) (session : Timing) (request : List ℕ) (address size : ℕ) (events : List ℕ) (answer : Answer) {replies : List ℕ} {heard : Answer} {asked : Asked} {s : State} → asked ≡ askedBy ask session → s ≡ startOf (askedOf asked)
+pub called : (ask : Ask) (session : Timing) (request : List ℕ) (address size : ℕ) (events : List ℕ) (answer : Answer) {replies : List ℕ} {heard : Answer} {asked : Asked} {s : State}
+    → asked ≡ askedBy ask session → s ≡ startOf (askedOf asked)
     → Answers replies heard (guarded (ask .strict) (askedOf asked) (overallOf (ask .overall)) (formOf (ask .channel .form)) (ask .channel .listens) events replies)
     → {l m o p q : List ℕ} {n k i r : ℕ} → Adds (begins (ask .strict) request (rules.state (s .hush) (s .deadline) [] [])) l 0 n m
-    → Adds (joined (ask .channel .listens) replies (tell (ask .strict) (askedOf asked) (overallOf (ask .overall)) (ask .channel .listens) replies (entries (formOf (ask .channel .form)) events) (rules.start (askedOf asked)))) m n k o
-    → Adds (checksBy (ask .strict) (ask .call) address size (partOf replies (answer .reply) .bytes) (outcomeOf [] (heard .outcome)) (outcomeOf [] (answer .outcome))) o k i p → Adds (concludes (answerOf [] answer)) p i r q
+    → Adds (joined (ask .channel .listens) replies
+    (tell (ask .strict) (askedOf asked) (overallOf (ask .overall)) (ask .channel .listens) replies (entries (formOf (ask .channel .form)) events) (rules.start (askedOf asked)))) m n k o
+    → Adds (checksBy (ask .strict) (ask .call) address size (partOf replies (answer .reply) .bytes) (outcomeOf [] (heard .outcome)) (outcomeOf [] (answer .outcome))) o k i p
+    → Adds (concludes (answerOf [] answer)) p i r q
     → Adds (callText ask session request address size events replies answer) l 0 r q
 called ask session request address size events answer {replies} {heard} {asked} is first hears a b c d =
     let later = outcomeOf [] (answer .outcome) in
     let reply = partOf replies (answer .reply) .bytes in
     let judged = heard-anywhere (ask .call) address size reply replies (ask .strict) (heard .outcome) later ∙
     ap (λ (x : answers.Answer). checksBy (ask .strict) (ask .call) address size reply (x .outcome) later) (hears .means) in
-    saying (ap (λ (x : Asked). text ask request address size events replies answer (askedOf x)) is) (both (both (both (saying (begins-same (ask .strict) request (askedOf asked) first) a) b) (saying judged c)) d)
+    let begun = saying (begins-same (ask .strict) request (askedOf asked) first) a in
+    saying (ap (λ (x : Asked). text ask request address size events replies answer (askedOf x)) is) (both (both (both begun b) (saying judged c)) d)

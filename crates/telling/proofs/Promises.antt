@@ -75,7 +75,9 @@ telling-ends l = go (layoutOk l) refl
   where
     sound : Ends (soundText l)
     sound = let x = toldIn l in
-        by-refusal (answerOf l .outcome) (callText x (answerOf l)) (behind (exchangeText x ++ checksText (x .strict) (x .call) (answerOf l .reply .bytes) (heardIn x) (answerOf l .outcome)) (concludes (answerOf l)) (concludes-ends (answerOf l)))
+        let y = answerOf l in
+        by-refusal (y .outcome) (callText x y)
+        (behind (exchangeText x ++ checksText (x .strict) (x .call) (y .reply .bytes) (heardIn x) (y .outcome)) (concludes y) (concludes-ends y))
 
     go : (b : Bool) → layoutOk l ≡ b → Ends (cond b (soundText l) (offLine l))
     go true e = sound

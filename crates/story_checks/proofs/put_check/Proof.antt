@@ -20,7 +20,11 @@ same-length : tie.Need-same-length
 same-length c = search needs
 
 returns : tie.Need-returns
-returns c = both (both (appends (c .before .before .before .before .before .before .before .before .before .before .append .ensures)) (c .before .before .before .before .before .before .put-wanted .ensures)) (c .before .before .put-verdict .ensures)
+returns c =
+    let at-put-verdict = c .before .before in
+    let at-put-wanted = at-put-verdict .before .before .before .before in
+    let at-append = at-put-wanted .before .before .before .before in
+    both (both (appends (at-append .append .ensures)) (at-put-wanted .put-wanted .ensures)) (at-put-verdict .put-verdict .ensures)
 
 pub put-check-spec : {M : Type 1} → statement M
 put-check-spec =

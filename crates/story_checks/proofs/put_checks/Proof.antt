@@ -32,9 +32,16 @@ same-length : tie.Need-same-length
 same-length c = search needs
 
 returns-2 : tie.Need-returns-2
-returns-2 c = let a = c .before .before .before .before .before .before .before .before .before .before .args in
-    let heard = sym (c .before .before .before .before .before .before .before .is-positive .ensures) ∙ not-false _ (c .before .before .before .before .before .before .if1 .left) in
-    rw (not-true (a .strict) (c .before .before .before .before .before .if2 .taken)) (saying (ap lenientLine (c .before .before .before .is-positive2 .ensures) ∙ if-so (outcomeOf [] (a .heard)) _ heard) (c .before .before .put-lenient .ensures))
+returns-2 c =
+    let at-put-lenient = c .before .before in
+    let at-is-positive2 = at-put-lenient .before in
+    let at-if2 = at-is-positive2 .before .before in
+    let at-if1 = at-if2 .before in
+    let at-is-positive = at-if1 .before in
+    let a = at-is-positive .before .before .before .args in
+    let heard = sym (at-is-positive .is-positive .ensures) ∙ not-false _ (at-if1 .if1 .left) in
+    let said = ap lenientLine (at-is-positive2 .is-positive2 .ensures) ∙ if-so (outcomeOf [] (a .heard)) _ heard in
+    rw (not-true (a .strict) (at-if2 .if2 .taken)) (saying said (at-put-lenient .put-lenient .ensures))
 
 byte-at-requires : tie.Need-byte-at-requires
 byte-at-requires c κs = search needs
@@ -55,10 +62,18 @@ same-length-2 : tie.Need-same-length-2
 same-length-2 c = search needs
 
 returns-3 : tie.Need-returns-3
-returns-3 c = let a = c .before .before .before .before .before .before .before .before .before .before .before .before .before .args in
-    let heard = sym (c .before .before .before .before .before .before .before .before .before .before .is-positive .ensures) ∙ not-false _ (c .before .before .before .before .before .before .before .before .before .if1 .left) in
-    let row = c .before .before .before .before .before .before .row-of .ensures .0 ∙ ap (λ (n : ℕ). codesOf (a .call) (a .address) (a .size) (n / 16)) (c .before .before .before .before .before .before .before .byte-at .ensures) in
-    rw (not-false (a .strict) (c .before .before .before .before .before .before .before .before .if2 .left)) (saying (ap (λ (ks : List ℕ). toldBy ks (failedIn (outcomeOf [] (a .after)))) row ∙ if-so (outcomeOf [] (a .heard)) _ heard) (c .before .before .put-row .ensures))
+returns-3 c =
+    let at-put-row = c .before .before in
+    let at-row-of = at-put-row .before .before .before .before in
+    let at-byte-at = at-row-of .before in
+    let at-if2 = at-byte-at .before in
+    let at-if1 = at-if2 .before in
+    let at-is-positive = at-if1 .before in
+    let a = at-is-positive .before .before .before .args in
+    let heard = sym (at-is-positive .is-positive .ensures) ∙ not-false _ (at-if1 .if1 .left) in
+    let row = at-row-of .row-of .ensures .0 ∙ ap (λ (n : ℕ). codesOf (a .call) (a .address) (a .size) (n / 16)) (at-byte-at .byte-at .ensures) in
+    let said = ap (λ (ks : List ℕ). toldBy ks (failedIn (outcomeOf [] (a .after)))) row ∙ if-so (outcomeOf [] (a .heard)) _ heard in
+    rw (not-false (a .strict) (at-if2 .if2 .left)) (saying said (at-put-row .put-row .ensures))
 
 pub put-checks-spec : {M : Type 1} → statement M
 put-checks-spec =

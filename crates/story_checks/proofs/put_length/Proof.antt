@@ -26,14 +26,22 @@ same-length c = search needs
 
 returns : tie.Need-returns
 unfolding length?
-returns c = rw (c .before .before .before .before .before .if1 .taken) (both (both (appends (c .before .before .before .before .before .before .before .before .before .before .before .before .append .ensures)) (appends (c .before .before .before .before .before .before .before .before .append-decimal .ensures))) (appends (c .before .before .append2 .ensures)))
+returns c =
+    let at-if1 = c .before .before .before .before .before in
+    let at-append-decimal = at-if1 .before .before .before in
+    let at-append = at-append-decimal .before .before .before .before in
+    rw (at-if1 .if1 .taken)
+    (both (both (appends (at-append .append .ensures)) (appends (at-append-decimal .append-decimal .ensures))) (appends (c .before .before .append2 .ensures)))
 
 same-length-2 : tie.Need-same-length-2
 same-length-2 c = search needs
 
 returns-2 : tie.Need-returns-2
 unfolding length?
-returns-2 c = rw (ne-eqb _ _ (c .if1 .left)) (both (appends (c .before .before .before .before .before .before .before .append .ensures)) (appends (c .before .before .before .append-decimal .ensures)))
+returns-2 c =
+    let at-append-decimal = c .before .before .before in
+    let at-append = at-append-decimal .before .before .before .before in
+    rw (ne-eqb _ _ (c .if1 .left)) (both (appends (at-append .append .ensures)) (appends (at-append-decimal .append-decimal .ensures)))
 
 pub put-length-spec : {M : Type 1} → statement M
 put-length-spec =

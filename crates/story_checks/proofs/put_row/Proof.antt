@@ -36,7 +36,11 @@ same-length : tie.Need-same-length Inv-loop μ-loop
 same-length c = search needs
 
 returns : tie.Need-returns Inv-loop μ-loop
-returns c = fails (c .before .before .before .before .before .before .before .before .loop .inv .0) (c .before .before .before .before .before .before .before .loop-test .taken) (sym (c .before .before .before .before .before .is-failed .ensures) ∙ c .before .before .before .before .if1 .taken) (c .before .before .put-check .ensures)
+returns c =
+    let at-if1 = c .before .before .before .before in
+    let at-is-failed = at-if1 .before in
+    let at-loop-test = at-is-failed .before .before in
+    fails (at-loop-test .before .loop .inv .0) (at-loop-test .loop-test .taken) (sym (at-is-failed .is-failed .ensures) ∙ at-if1 .if1 .taken) (c .before .before .put-check .ensures)
 
 put-check-requires-2 : tie.Need-put-check-requires-2 Inv-loop μ-loop
 put-check-requires-2 c κs = search needs
@@ -48,7 +52,12 @@ loop-less : tie.Need-loop-less Inv-loop μ-loop
 loop-less c = search needs
 
 loop-again : tie.Need-loop-again Inv-loop μ-loop
-loop-again c = (passes (c .before .before .before .before .before .before .before .before .loop .inv .0) (c .before .before .before .before .before .before .before .loop-test .taken) (sym (c .before .before .before .before .before .is-failed .ensures) ∙ c .before .before .before .before .if1 .left) (c .before .before .put-check2 .ensures), search needs)
+loop-again c =
+    let at-if1 = c .before .before .before .before in
+    let at-is-failed = at-if1 .before in
+    let at-loop-test = at-is-failed .before .before in
+    let next = passes (at-loop-test .before .loop .inv .0) (at-loop-test .loop-test .taken) (sym (at-is-failed .is-failed .ensures) ∙ at-if1 .if1 .left) (c .before .before .put-check2 .ensures) in
+    (next, search needs)
 
 same-length-2 : tie.Need-same-length-2 Inv-loop μ-loop
 same-length-2 c = search needs

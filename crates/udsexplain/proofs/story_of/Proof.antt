@@ -44,7 +44,10 @@ same-length : tie.Need-same-length
 same-length c = search needs
 
 returns : tie.Need-returns
-returns c = stands (c .before .before .before .before .before .before .before .before .before .before .pre) (c .before .before .before .before .before .tell .ensures) (c .before .m .given .1) ∙ ap story (c .before .before .before .before .before .before .before .part .ensures)
+returns c =
+    let at-tell = c .before .before .before .before .before in
+    let at-part = at-tell .before .before in
+    stands (at-part .before .before .before .pre) (at-tell .tell .ensures) (c .before .m .given .1) ∙ ap story (at-part .part .ensures)
 
 same-length-2 : tie.Need-same-length-2
 same-length-2 c = search needs

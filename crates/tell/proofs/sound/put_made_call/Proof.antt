@@ -33,10 +33,18 @@ same-length c = search needs
 
 returns : tie.Need-returns
 returns c =
-    let at-args = c .before .before .before .before .before .before .before .before .before .before .before .before .before .before .before .before .before .before .before .before .before .before .before .before .before .before .args in
-    called (at-args .ask) (at-args .session) (at-args .request .now) (at-args .address) (at-args .size) (at-args .events .now) (at-args .answer)
-    (c .before .before .before .before .before .before .before .before .before .before .before .before .before .before .before .before .before .before .before .before .asked-by .ensures) (c .before .before .before .before .before .before .before .before .before .before .before .before .before .before .before .before .before .before .start .ensures) (c .before .before .before .before .before .before .before .before .before .before .exchange .ensures) (c .before .before .before .before .before .before .before .before .before .before .before .before .before .before .before .before .before .put-begins .ensures)
-    (c .before .before .before .before .before .before .before .before .before .before .before .before .before .put-exchange .ensures) (rw (c .before .before .before .before .before .before .before .part .ensures) at (c .before .before .before .before .before .before .put-checks .ensures)) (c .before .before .put-concludes .ensures)
+    let at-put-concludes = c .before .before in
+    let at-put-checks = at-put-concludes .before .before .before .before in
+    let at-part = at-put-checks .before in
+    let at-exchange = at-part .before .before .before in
+    let at-put-exchange = at-exchange .before .before .before in
+    let at-put-begins = at-put-exchange .before .before .before .before in
+    let at-start = at-put-begins .before in
+    let at-asked-by = at-start .before .before in
+    let args = at-asked-by .before .before .before .before .before .before .args in
+    called (args .ask) (args .session) (args .request .now) (args .address) (args .size) (args .events .now) (args .answer)
+    (at-asked-by .asked-by .ensures) (at-start .start .ensures) (at-exchange .exchange .ensures) (at-put-begins .put-begins .ensures)
+    (at-put-exchange .put-exchange .ensures) (rw (at-part .part .ensures) at (at-put-checks .put-checks .ensures)) (at-put-concludes .put-concludes .ensures)
 
 pub put-made-call-spec : {M : Type 1} → statement M
 put-made-call-spec =

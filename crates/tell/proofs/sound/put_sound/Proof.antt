@@ -75,7 +75,8 @@ cast-put-made-call c =
     let at-log = c .before .before .before .before .before .before .before .before .before .before .before .before .before .before in
     let at-args = at-log .before .before in
     let field = ap (λ (x : Header). x .addressLength) (at-args .pre .1) in
-    let few = address-narrow (said (at-args .args .h)) (at-args .args .log .now) (c .before .before .before .before .before .before .before .before .before .before .before .before .before .address-of .ensures) in
+    let address = c .before .before .before .before .before .before .before .before .before .before .before .before .before .address-of .ensures in
+    let few = address-narrow (said (at-args .args .h)) (at-args .args .log .now) address in
     omega (arith, at-log .shared-slice-known .given 7)
 
 cast-put-made-call-2 : tie.Need-cast-put-made-call-2
@@ -83,7 +84,8 @@ cast-put-made-call-2 c =
     let at-log = c .before .before .before .before .before .before .before .before .before .before .before .before .before .before in
     let at-args = at-log .before .before in
     let field = ap (λ (x : Header). x .sizeLength) (at-args .pre .1) in
-    let few = size-narrow (said (at-args .args .h)) (at-args .args .log .now) (c .before .before .before .before .before .before .before .before .before .before .before .before .size-of .ensures) in
+    let size = c .before .before .before .before .before .before .before .before .before .before .before .before .size-of .ensures in
+    let few = size-narrow (said (at-args .args .h)) (at-args .args .log .now) size in
     omega (arith, at-log .shared-slice-known .given 8)
 
 put-made-call-requires : tie.Need-put-made-call-requires
