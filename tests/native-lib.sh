@@ -5,11 +5,11 @@
 library="$room/a library"
 stand_ins=$room/native-tools
 builds=$room/builds
-mkdir -p "$library/scripts" "$library"/crates/{rules,host,alfid_door,line_door,step_door,begin_door,begin_alfid_door,door,other}/{src,must-fail} "$stand_ins" "$room/kit/docs" "$room/kit/on/x86_64/toolchain/bin"
+mkdir -p "$library/scripts" "$library"/crates/{rules,host,alfid_door,line_door,step_door,tick_door,begin_door,begin_alfid_door,door,other}/{src,must-fail} "$stand_ins" "$room/kit/docs" "$room/kit/on/x86_64/toolchain/bin"
 cp scripts/native-lib "$library/scripts/"
-touch "$library"/crates/{rules,host,alfid_door,line_door,step_door,begin_door,begin_alfid_door,door,other}/src/lib.rt
+touch "$library"/crates/{rules,host,alfid_door,line_door,step_door,tick_door,begin_door,begin_alfid_door,door,other}/src/lib.rt
 echo 'kit 1' >"$room/kit/KIT-ID"
-printf '%s\n' '# the crates' 'host: rules # and no other' 'alfid_door: host' 'line_door: rules' 'step_door: host' 'begin_door: step_door' 'begin_alfid_door: step_door' 'door: rules' 'rules:' 'other: rules' >"$library/crates.txt"
+printf '%s\n' '# the crates' 'host: rules # and no other' 'alfid_door: host' 'line_door: rules' 'step_door: host' 'tick_door: step_door' 'begin_door: step_door' 'begin_alfid_door: step_door' 'door: rules' 'rules:' 'other: rules' >"$library/crates.txt"
 cat >"$stand_ins/rt" <<SCRIPT
 #!/bin/sh
 case \$1 in
@@ -39,7 +39,7 @@ chmod +x "$stand_ins/rt" "$stand_ins/uname" "$stand_ins/cc" "$room/kit/on/x86_64
 native() { PATH=$stand_ins:$PATH "$library/scripts/native-lib" "$@"; }
 archive() { native "$@" && (cd "$library" && cat "$(native "$@")"); }
 native_after() { (cd "$library" && eval "$1") && archive "${@:2}"; } # native_after COMMAND [CRATE]: a run after that
-built() { echo "target/native/libbintrochis.a" && printf "%s $1\\n" host alfid_door line_door step_door begin_door begin_alfid_door; } # built N: what `archive` prints of the door's N-th build
+built() { echo "target/native/libbintrochis.a" && printf "%s $1\\n" host alfid_door line_door step_door tick_door begin_door begin_alfid_door; } # built N: what `archive` prints of the door's N-th build
 other=target/native/libdoor.a
 try "native-lib: the first run builds" 0 "$(built 1)" "" archive
 try "native-lib: the second builds nothing" 0 "$(built 1)" "" archive
