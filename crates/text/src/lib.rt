@@ -99,9 +99,12 @@ fn put_number(line: &mut [u8], at: usize, value: u64) -> usize
     ensures { λ r. ⌜ Put (now (line .entry)) at (spaced (decimal value)) (now (line .exit)) r ⌝ }
 {
     let n = put_byte(line, at, b' ');
-    // most counts have one digit
+    // most counts have one digit or two
     if value < 10 {
         return put_byte(line, n, digit(value as u8));
+    }
+    if value < 100 {
+        return put_two(line, n, value);
     }
     put_decimal(line, n, value)
 }
