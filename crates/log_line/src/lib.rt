@@ -19,7 +19,6 @@ ghost use Rattle.text.specs.Written.{Wrote};
 ghost use Rattle.log_line.specs.Answered.{AnsweredIn};
 
 pub mod answers;
-mod words;
 
 // The answer of the call that a log asks, with the log's header, which says where the reply bytes are that it names; or it is no log.
 pub enum LogAnswer {
