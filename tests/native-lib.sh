@@ -57,3 +57,40 @@ try "native-lib: a missing library" 0 "$(built 9)" "" native_after 'rm target/na
 try "native-lib: another kit" 0 "$(built 10)" "" native_after "echo 'kit 2' >'$room/kit/KIT-ID'"
 try "native-lib: what cannot be proved is not built" 1 "" "host NOT PROVED" native_after 'touch broken && echo 7 >>crates/rules/src/lib.rt'
 try "native-lib: and is tried again" 0 "$(built 12)" "" native_after 'rm broken'
+
+# For another processor: stand-ins for the kit's compiler, which has its clang compile a module, and for that clang.
+mkdir -p "$room/kit/on/x86_64/bin" "$room/kit/on/x86_64/toolchain/lib"
+cat >"$room/kit/on/x86_64/bin/rattle" <<'SCRIPT'
+#!/bin/sh
+while [ $# -gt 0 ]; do
+    case $1 in
+    --crate-name) crate=$2 ;;
+    --toolchain) tools=$2 ;;
+    -o) out=$2 ;;
+    esac
+    shift
+done
+echo "$crate" >module.bc
+"$tools/bin/clang" module.bc
+rm module.bc
+echo "$crate" >"$out"
+SCRIPT
+cat >"$room/kit/on/x86_64/toolchain/bin/clang" <<'SCRIPT'
+#!/bin/sh
+while [ $# -gt 0 ]; do
+    case $1 in
+    --target=*) target=${1#--target=} ;;
+    *.bc) module=$1 ;;
+    -o) out=$2 ;;
+    esac
+    shift
+done
+[ -z "${out-}" ] || echo "$(cat "$module") $target" >"$out"
+SCRIPT
+chmod +x "$room/kit/on/x86_64/bin/rattle" "$room/kit/on/x86_64/toolchain/bin/clang"
+for_arm() { echo "target/native-aarch64/libbintrochis.a" && printf "%s aarch64-unknown-linux-gnu\\n" host alfid_door line_door step_door tick_door begin_door begin_alfid_door; }
+try "native-lib: for another processor" 0 "$(for_arm)" "" archive --for aarch64
+try "native-lib: and its module is compiled only where something changed" 0 "$(for_arm)" "" native_after "rm '$room/kit/on/x86_64/bin/rattle'" --for aarch64
+try "native-lib: which leaves this processor's alone" 0 "$(built 12)" "" archive
+try "native-lib: for this processor by its name" 0 "$(built 12)" "" archive --for x86_64
+try "native-lib: for no processor" 2 "" "usage: native-lib" native --for
