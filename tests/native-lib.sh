@@ -5,11 +5,11 @@
 library="$room/a library"
 stand_ins=$room/native-tools
 builds=$room/builds
-mkdir -p "$library/scripts" "$library"/crates/{rules,host,alfid_door,line_door,step_door,begin_door,begin_alfid_door,door,other}/{src,must-fail} "$stand_ins" "$room/kit/docs" "$room/kit/on/x86_64/toolchain/bin"
+mkdir -p "$library/scripts" "$library"/crates/{rules,host,alfid_door,line_door,step_door,tick_door,begin_door,begin_alfid_door,door,other}/{src,must-fail} "$stand_ins" "$room/kit/docs" "$room/kit/on/x86_64/toolchain/bin"
 cp scripts/native-lib "$library/scripts/"
-touch "$library"/crates/{rules,host,alfid_door,line_door,step_door,begin_door,begin_alfid_door,door,other}/src/lib.rt
+touch "$library"/crates/{rules,host,alfid_door,line_door,step_door,tick_door,begin_door,begin_alfid_door,door,other}/src/lib.rt
 echo 'kit 1' >"$room/kit/KIT-ID"
-printf '%s\n' '# the crates' 'host: rules # and no other' 'alfid_door: host' 'line_door: rules' 'step_door: host' 'begin_door: step_door' 'begin_alfid_door: step_door' 'door: rules' 'rules:' 'other: rules' >"$library/crates.txt"
+printf '%s\n' '# the crates' 'host: rules # and no other' 'alfid_door: host' 'line_door: rules' 'step_door: host' 'tick_door: step_door' 'begin_door: step_door' 'begin_alfid_door: step_door' 'door: rules' 'rules:' 'other: rules' >"$library/crates.txt"
 cat >"$stand_ins/rt" <<SCRIPT
 #!/bin/sh
 case \$1 in
@@ -39,7 +39,7 @@ chmod +x "$stand_ins/rt" "$stand_ins/uname" "$stand_ins/cc" "$room/kit/on/x86_64
 native() { PATH=$stand_ins:$PATH "$library/scripts/native-lib" "$@"; }
 archive() { native "$@" && (cd "$library" && cat "$(native "$@")"); }
 native_after() { (cd "$library" && eval "$1") && archive "${@:2}"; } # native_after COMMAND [CRATE]: a run after that
-built() { echo "target/native/libbintrochis.a" && printf "%s $1\\n" host alfid_door line_door step_door begin_door begin_alfid_door; } # built N: what `archive` prints of the door's N-th build
+built() { echo "target/native/libbintrochis.a" && printf "%s $1\\n" host alfid_door line_door step_door tick_door begin_door begin_alfid_door; } # built N: what `archive` prints of the door's N-th build
 other=target/native/libdoor.a
 try "native-lib: the first run builds" 0 "$(built 1)" "" archive
 try "native-lib: the second builds nothing" 0 "$(built 1)" "" archive
@@ -57,3 +57,40 @@ try "native-lib: a missing library" 0 "$(built 9)" "" native_after 'rm target/na
 try "native-lib: another kit" 0 "$(built 10)" "" native_after "echo 'kit 2' >'$room/kit/KIT-ID'"
 try "native-lib: what cannot be proved is not built" 1 "" "host NOT PROVED" native_after 'touch broken && echo 7 >>crates/rules/src/lib.rt'
 try "native-lib: and is tried again" 0 "$(built 12)" "" native_after 'rm broken'
+
+# For another processor: stand-ins for the kit's compiler, which has its clang compile a module, and for that clang.
+mkdir -p "$room/kit/on/x86_64/bin" "$room/kit/on/x86_64/toolchain/lib"
+cat >"$room/kit/on/x86_64/bin/rattle" <<'SCRIPT'
+#!/bin/sh
+while [ $# -gt 0 ]; do
+    case $1 in
+    --crate-name) crate=$2 ;;
+    --toolchain) tools=$2 ;;
+    -o) out=$2 ;;
+    esac
+    shift
+done
+echo "$crate" >module.bc
+"$tools/bin/clang" module.bc
+rm module.bc
+echo "$crate" >"$out"
+SCRIPT
+cat >"$room/kit/on/x86_64/toolchain/bin/clang" <<'SCRIPT'
+#!/bin/sh
+while [ $# -gt 0 ]; do
+    case $1 in
+    --target=*) target=${1#--target=} ;;
+    *.bc) module=$1 ;;
+    -o) out=$2 ;;
+    esac
+    shift
+done
+[ -z "${out-}" ] || echo "$(cat "$module") $target" >"$out"
+SCRIPT
+chmod +x "$room/kit/on/x86_64/bin/rattle" "$room/kit/on/x86_64/toolchain/bin/clang"
+for_arm() { echo "target/native-aarch64/libbintrochis.a" && printf "%s aarch64-unknown-linux-gnu\\n" host alfid_door line_door step_door tick_door begin_door begin_alfid_door; }
+try "native-lib: for another processor" 0 "$(for_arm)" "" archive --for aarch64
+try "native-lib: and its module is compiled only where something changed" 0 "$(for_arm)" "" native_after "rm '$room/kit/on/x86_64/bin/rattle'" --for aarch64
+try "native-lib: which leaves this processor's alone" 0 "$(built 12)" "" archive
+try "native-lib: for this processor by its name" 0 "$(built 12)" "" archive --for x86_64
+try "native-lib: for no processor" 2 "" "usage: native-lib" native --for

@@ -169,8 +169,10 @@ pub fn run(
     if is_refused(outcome) {
         return refused(session, 10);
     }
+    let answered = concluded(session, ask, prepared.length, address, size, replies, heard);
+    // last, since the checks' values and the writing's are then not kept at once, which takes less of the stack
     requests::write(request, prepared, address, size, data);
-    concluded(session, ask, prepared.length, address, size, replies, heard)
+    answered
 }
 
 // Calls 5, 6, 11 and 12.

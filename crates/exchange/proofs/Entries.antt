@@ -16,7 +16,7 @@ use Rattle.rules.specs.Events.{Form, plain, addressed, eventSize, Entry, Event,
 use Rattle.rules.proofs.Laying.{chunk-entry}
 use Rattle.rules.proofs.Writing.{every-drop, every-take}
 use Rattle.exchange.specs.Meaning.{kindHeard}
-use Rattle.exchange.specs.Places.{beginning}
+use Rattle.exchange.specs.Places.{WholeReply, beginning}
 use Rattle.wire.proofs.Ends.{u16-past, u32-past}
 
 -- Either size fits into the list as often as the list is long.
@@ -175,19 +175,33 @@ module _ (form : Form) (r l : List ℕ) (n i t : ℕ) (e : Entry) (here : e ≡ 
   limits-go s p h = let rest = entriesFrom form l (n - (i + 1)) (i + 1) in
       rw (next-entry form l n i e here more, le-leb t (e .time) h, ← p) (swap s (rising (e .time) rest) (every (sound r) rest))
 
--- A sound entry's reply begins inside the lent bytes.
-pub beginning-inside : (r : List ℕ) (e : Entry) → sound r e ≡ true → beginning e ≤ length r
-beginning-inside r e h = go (eqb (e .kind) 0) (and-eq-true-iff (leb (e .time) 4294967295) _ .0 h .1)
+-- A sound reply ends inside the lent bytes.
+sound-inside : (r : List ℕ) (e : Entry) → sound r e ≡ true → cond (eqb (e .kind) 0) (e .offset + e .size) 0 ≤ length r
+sound-inside r e h = go (eqb (e .kind) 0) (and-eq-true-iff (leb (e .time) 4294967295) _ .0 h .1)
   where
     go : (b : Bool)
         → cond b (leb (e .size) 4095 && leb (e .offset + e .size) (length r) && every isByte (named r e .bytes))
-        (leb (e .kind) 3 && leb (e .size) 65535 && eqb (e .source) 0) ≡ true → cond b (e .offset) 0 ≤ length r
+        (leb (e .kind) 3 && leb (e .size) 65535 && eqb (e .source) 0) ≡ true → cond b (e .offset + e .size) 0 ≤ length r
     go true k =
         let small = leb (e .size) 4095 in
         let inside = leb (e .offset + e .size) (length r) in
         let tests = and-eq-true-iff small inside .0 (and-eq-true-iff (small && inside) _ .0 k .0) in
-        omega (arith, leb-true (e .offset + e .size) (length r) (tests .1))
+        leb-true (e .offset + e .size) (length r) (tests .1)
     go false k = omega arith
+
+-- A sound entry's reply begins inside the lent bytes.
+pub beginning-inside : (r : List ℕ) (e : Entry) → sound r e ≡ true → beginning e ≤ length r
+beginning-inside r e h = go (eqb (e .kind) 0) (sound-inside r e h)
+  where
+    go : (b : Bool) → cond b (e .offset + e .size) 0 ≤ length r → cond b (e .offset) 0 ≤ length r
+    go true k = omega arith
+    go false k = omega arith
+
+-- All that it names is there.
+pub sound-whole : (r : List ℕ) (e : Entry) → sound r e ≡ true → WholeReply r e
+sound-whole r e h k =
+    let inside = rw (eq-eqb (e .kind) 0 k) at (sound-inside r e h) in
+    omega (arith, inside, length-take (e .size) (drop (e .offset) r), length-drop (e .offset) r)
 
 -- The limits of the list, where its length is right.
 module _ (form : Form) (l r : List ℕ) (whole : length l % eventSize form ≡ 0) (few : length l / eventSize form ≤ 512) where

@@ -1,6 +1,7 @@
 -- Places in the lent reply bytes.
 use Prim.Native.Nat.{ℕ, _+_, _-_, _≤_}
 use native.Mathlib.Omega.{arith}
+use mathlib.Core.Logic.{_≢_}
 use mathlib.Core.Path.{_≡_, sym, ap, _∙_}
 use mathlib.Core.List.{List, _++_}
 use Rattle.rules.specs.Answers.{part}
@@ -28,9 +29,17 @@ part-inside l at n r e k = omega (arith, ap length e ∙ length-take n (drop at 
 pub whole-inside : (l : List ℕ) (at n : ℕ) → length (take n (drop at l)) ≡ n → at ≤ length l → at + n ≤ length l
 whole-inside l at n e h = omega (arith, length-take n (drop at l), length-drop at l)
 
+-- As long as its bytes, it lies inside if it has any.
+pub some-inside : (l : List ℕ) (at n : ℕ) → length (take n (drop at l)) ≡ n → n ≢ 0 → at + n ≤ length l
+some-inside l at n e h = omega (arith, length-take n (drop at l), length-drop at l)
+
+-- A part names no more than is there once it is cut at the end of the bytes.
+pub cut-part : (l : List ℕ) (at n : ℕ) {r : List ℕ} → r ≡ take n (drop at l) → take (length r) (drop at l) ≡ r
+cut-part l at n here = rw here (take-taken n (drop at l))
+
 -- The part that an event names, cut at the end of the bytes.
 pub named-cut : (l : List ℕ) (e : Entry) (r : List ℕ) → r ≡ take (e .size) (drop (e .offset) l)
     → Named l e (record { at = e .offset; len = length r })
 named-cut l e r here =
-    let cut : take (length r) (drop (e .offset) l) ≡ r = rw here (take-taken (e .size) (drop (e .offset) l)) in
+    let cut = cut-part l (e .offset) (e .size) here in
     record { means = ap (λ (bs : List ℕ). part (e .offset) bs) (cut ∙ here); whole = ap length cut }

@@ -25,10 +25,10 @@ use Rattle.exchange.specs.declared.types.Turn.the-variants.{On, Ends}
 use Rattle.exchange.specs.Counts.{countOf, plus}
 use Rattle.exchange.specs.Guarded.{over}
 use Rattle.exchange.specs.Meaning.{outcomeOf, partOf, answerOf}
-use Rattle.exchange.specs.Places.{Inside, InsideOutcome, beginning, SettlesAs, TurnsTo, Turns, Answers}
+use Rattle.exchange.specs.Places.{Inside, InsideOutcome, WholeReply, beginning, SettlesAs, TurnsTo, Turns, Answers}
 use Rattle.exchange.specs.States.{stateOf, startOf, passedBy, silenceOf, underOf}
 use Rattle.exchange.proofs.Counting.{count-none, plus-counts}
-use Rattle.exchange.proofs.Entries.{next-entry, idle-heard, beginning-inside, all-sound, few-entries}
+use Rattle.exchange.proofs.Entries.{next-entry, idle-heard, beginning-inside, sound-whole, all-sound, few-entries}
 use Rattle.exchange.proofs.Placing.{whole-inside}
 use Rattle.exchange.proofs.Turning.{turns-idle, left, settle-none, settle-late, settle-on, settle-ends}
 
@@ -130,6 +130,10 @@ module _ {strict : Bool} {a : Asked} (overall : Option ℕ) {form : Form} {liste
 
       rest-sound : (sound r e ≡ true) × (every (sound r) (entriesFrom form l (n - (i + 1)) (i + 1)) ≡ true)
       rest-sound = and-eq-true-iff (sound r e) _ .0 (rw (next-entry form l n i e here more) at (held .sound))
+
+      -- All that the next event names is there, if it is a reply.
+      pub next-whole : WholeReply r e
+      next-whole = sound-whole r e (rest-sound .0)
 
       module _ {x : Turn} (turns : Turns strict a overall listens now e r x) (early : e .time ≤ now .deadline) where
         -- The turn from the state where nothing was read, and the turn that is taken.

@@ -1,12 +1,15 @@
 -- One event's turn, and the exchange over the events that are left.
 use Prim.Native.Nat.{ℕ, _+_, _-_, _≤_, _<_}
 use native.Mathlib.Omega.{arith}
-use mathlib.Core.Bool.{Bool, true, false}
+use mathlib.Core.Bool.{Bool, true, false, cond, not, _&&_}
 use mathlib.Core.Logic.{_≢_}
-use mathlib.Core.Path.{_≡_, refl, sym, ap, _∙_}
+use mathlib.Core.Path.{_≡_, refl, sym, ap, subst, _∙_}
 use mathlib.Core.List.{List, [], _∷_, map}
 use mathlib.Core.Option.{Option}
 use borrow.Author.Tests.{eq-eqb}
+use lib.Dec.{eqb}
+use lib.ListN.{length, take, drop}
+use Rattle.rules.specs.Answers.{part}
 use Rattle.rules.specs.Events as events
 use Rattle.rules.specs.Events.{Form, Entry, eventOf, named, entryAt, entriesFrom}
 use Rattle.rules.specs.Exchange as rules
@@ -22,17 +25,54 @@ use Rattle.exchange.specs.declared.types.Step.{Step}
 use Rattle.exchange.specs.declared.types.Step.the-variants.{Pending, Settles}
 use Rattle.exchange.specs.declared.types.Count.{Count}
 use Rattle.exchange.specs.declared.types.State.{State}
+use Rattle.exchange.specs.declared.types.Turn.{Turn}
 use Rattle.exchange.specs.declared.types.Turn.the-variants.{On, Ends}
 use Rattle.exchange.specs.Counts.{counted}
 use Rattle.exchange.specs.States.{noPlace}
 use Rattle.exchange.specs.Meaning.{outcomeOf, stepOf, partOf, kindHeard}
-use Rattle.exchange.specs.Places.{Looked, Named, Turns}
+use Rattle.exchange.specs.Places.{Looked, Named, WholeReply, cut, beginning, TurnsTo, Turns}
+use Rattle.exchange.proofs.Placing.{take-taken}
 use Rattle.exchange.proofs.Entries.{next-entry, no-entry, heard-reply, heard-idle, heard-ended, heard-failed}
 
 -- The reply that an event names is judged as the part at its place is.
 seen-as : (strict : Bool) (a : Asked) (hush : Bool) {e : Entry} {l : List ℕ} {p : Place} {s : Step} → Named l e p
     → Looked l s (look strict a hush (partOf l p)) → look strict a hush (named l e) ≡ stepOf l s
 seen-as strict a hush place seen = ap (look strict a hush) (sym (place .means)) ∙ sym (seen .means)
+
+-- All that a cut reply names is there.
+pub cut-whole : (l : List ℕ) (e : Entry) → WholeReply l (cut l e)
+cut-whole l e k = rw (eq-eqb (e .kind) 0 k) (ap length (take-taken (e .size) (drop (e .offset) l)))
+
+-- A reply is heard alike whether it is cut or not, and so it turns the exchange alike.
+cut-heard : (listens : ℕ) (l : List ℕ) (e : Entry) → eventOf listens l (cut l e) ≡ eventOf listens l e
+cut-heard listens l e = go (eqb (e .kind) 0)
+  where
+    size : Bool → ℕ
+    size b = cond b (length (named l e .bytes)) (e .size)
+
+    heard : Bool → ℕ → events.Event
+    heard b n =
+        cond (b && not (eqb (e .source) listens)) (events.Event.idle (e .time))
+        (cond b (events.Event.reply (e .time) (part (e .offset) (take n (drop (e .offset) l))))
+        (cond (eqb (e .kind) 1) (events.Event.idle (e .time)) (cond (eqb (e .kind) 2) (events.Event.ended (e .time)) (events.Event.failed (e .time) n))))
+
+    go : (b : Bool) → heard b (size b) ≡ heard b (e .size)
+    go true =
+        ap (λ (bs : List ℕ). cond (not (eqb (e .source) listens)) (events.Event.idle (e .time)) (events.Event.reply (e .time) (part (e .offset) bs)))
+        (take-taken (e .size) (drop (e .offset) l))
+    go false = refl
+
+pub cut-turns : {strict : Bool} {a : Asked} {overall : Option ℕ} (listens : ℕ) {s : State} (l : List ℕ) (e : Entry) {x : Turn}
+    → Turns strict a overall listens s (cut l e) l x → Turns strict a overall listens s e l x
+cut-turns {strict} {a} {overall} listens {s} l e {x} h = record {
+  means = subst (λ (v : events.Event). TurnsTo overall l (beginning e) s x (turn strict (spent (s .notices .all) a) (rules.state (s .hush) (s .deadline) [] []) v))
+      (cut-heard listens l e) (h .means);
+}
+
+-- The place of a reply that has all that it names.
+pub named-whole : (listens : ℕ) {l : List ℕ} {e : Entry} {kind : ℕ} → WholeReply l e → kind ≡ kindHeard listens e → kind ≡ 0
+    → Named l e (record { at = e .offset; len = e .size })
+named-whole listens {l} {e} there heard k = record { means = refl; whole = there (heard-reply listens l e (sym heard ∙ k) .1) }
 
 -- The limit plays no part in that.
 seen-spent : (strict : Bool) (a : Asked) (n : ℕ) (hush : Bool) {e : Entry} {l : List ℕ} {p : Place} {s : Step} → Named l e p

@@ -57,6 +57,24 @@ pub record Named (replies : List ℕ) (e : Entry) (p : Place) : Type 0 where
   pub means : partOf replies p ≡ named replies e
   pub whole : length (partOf replies p .bytes) ≡ p .len
 
+-- All that a place names is there.
+abbrev pub Whole : List ℕ → Place → Type 0
+Whole replies p = length (partOf replies p .bytes) ≡ p .len
+
+-- All that an event names is there, if it is a reply.
+abbrev pub WholeReply : List ℕ → Entry → Type 0
+WholeReply replies e = e .kind ≡ 0 → length (named replies e .bytes) ≡ e .size
+
+-- A reply names no more than is there; any other event stays as it is.
+abbrev pub cut : List ℕ → Entry → Entry
+cut replies e = record {
+  time = e .time;
+  kind = e .kind;
+  offset = e .offset;
+  size = cond (eqb (e .kind) 0) (length (named replies e .bytes)) (e .size);
+  source = e .source;
+}
+
 -- Where the reply of an event begins; 0 where it has none.
 abbrev pub beginning : Entry → ℕ
 beginning e = cond (eqb (e .kind) 0) (e .offset) 0

@@ -13,7 +13,7 @@ ghost use Rattle.rules.specs.Bytes.{every, isByte};
 ghost use Rattle.rules.specs.Events.{addressed, eventSize, entryIn, entryAt, withinLimits};
 ghost use Rattle.rules.specs.Events as rules;
 ghost use Rattle.exchange.specs.Meaning.{formOf, entryOf, kindHeard};
-ghost use Rattle.exchange.specs.Places.{Named};
+ghost use Rattle.exchange.specs.Places.{Named, cut};
 
 // "Event, 10 bytes"; "12-byte events with the address last"
 pub fn event_size(form: Form) -> usize
@@ -114,6 +114,23 @@ pub fn named(event: Event, replies: &[u8]) -> Place
     Place {
         at,
         len: reply.len(),
+    }
+}
+
+// A reply cut at the end of the lent bytes: all that it then names is there.
+pub(crate) fn cut(event: Event, replies: &[u8]) -> Event
+    ensures { λ r. ⌜ entryOf r ≡ cut (now (replies .entry)) (entryOf event) ⌝ }
+{
+    if event.kind != 0 {
+        return event;
+    }
+    let place = named(event, replies);
+    Event {
+        time: event.time,
+        kind: event.kind,
+        offset: event.offset,
+        size: place.len as u16,
+        source: event.source,
     }
 }
 

@@ -18,7 +18,7 @@ ghost use Rattle.rules.specs.Answers.{lengthError};
 ghost use Rattle.rules.specs.Calls as calls;
 ghost use Rattle.rules.specs.Exchange as rules;
 ghost use Rattle.exchange.specs.Meaning.{askedOf, subOf, maximumOf, faultOf, verdictOf, firstOf, partOf};
-ghost use Rattle.exchange.specs.Places.{Looked};
+ghost use Rattle.exchange.specs.Places.{Whole, Looked};
 
 // "A length error is deviation 8 (minimum, maximum) in strict, the plain length outcome in lenient."
 pub fn length_error(strict: bool, minimum: usize, maximum: Maximum) -> Fault
@@ -110,13 +110,33 @@ fn positive_checks(strict: bool, asked: Asked, hush: bool, reply: &[u8]) -> Verd
     }
 }
 
-// One reply, judged by its first byte. "Code 78: deadline becomes this event's time + P2*, read on. Any other code: negative."
-pub fn look(strict: bool, asked: Asked, hush: bool, replies: &[u8], place: Place) -> Step
-    ensures { λ r. ⌜ Looked (now (replies .entry)) r (rules.look strict (askedOf asked) hush (partOf (now (replies .entry)) place)) ⌝ }
+// The bytes at a place that are all there: nothing is left to ask but whether there are any.
+fn whole(replies: &[u8], place: Place) -> &[u8]
+    requires { ⌜ Whole (now replies) place ⌝ }
+    ensures { λ r. ⌜ now r ≡ partOf (now (replies .entry)) place .bytes ⌝ }
 {
     let at = place.at;
     let len = place.len;
-    let reply = part(replies, at, len);
+    if len == 0 {
+        return &replies[..0];
+    }
+    let end = at + len;
+    &replies[at..end]
+}
+
+// One reply that is all there, judged by its first byte. "Code 78: deadline becomes this event's time + P2*, read on. Any other code: negative."
+pub(crate) fn whole_look(
+    strict: bool,
+    asked: Asked,
+    hush: bool,
+    replies: &[u8],
+    place: Place,
+) -> Step
+    requires { ⌜ Whole (now replies) place ⌝ }
+    ensures { λ r. ⌜ Looked (now (replies .entry)) r (rules.look strict (askedOf asked) hush (partOf (now (replies .entry)) place)) ⌝ }
+{
+    let at = place.at;
+    let reply = whole(replies, place);
     if reply.len() == 0 {
         return Step::Settles(Outcome::Fault(length_error(strict, 1, Maximum::None)));
     }
@@ -145,4 +165,17 @@ pub fn look(strict: bool, asked: Asked, hush: bool, replies: &[u8], place: Place
             }))
         }
     }
+}
+
+// The same at any place: a reply is cut at the end of the lent bytes.
+pub fn look(strict: bool, asked: Asked, hush: bool, replies: &[u8], place: Place) -> Step
+    ensures { λ r. ⌜ Looked (now (replies .entry)) r (rules.look strict (askedOf asked) hush (partOf (now (replies .entry)) place)) ⌝ }
+{
+    let at = place.at;
+    let reply = part(replies, at, place.len);
+    let there = Place {
+        at,
+        len: reply.len(),
+    };
+    whole_look(strict, asked, hush, replies, there)
 }

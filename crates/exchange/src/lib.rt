@@ -1,13 +1,13 @@
 // The exchange over a lent event list: "The exchange reads until one event settles it".
+use events::cut;
 use events::event_count;
 use events::event_in;
 use events::kind_heard;
 use events::kind_in;
-use events::named;
 use events::time_in;
 use events::within_limits;
-use judging::look;
 use judging::suppresses;
+use judging::whole_look;
 use types::Answer;
 use types::Asked;
 use types::Channel;
@@ -29,7 +29,7 @@ ghost use Rattle.rules.specs.Exchange as rules;
 ghost use Rattle.exchange.specs.Meaning.{formOf, askedOf, limitOf, overallOf, entryOf, outcomeOf};
 ghost use Rattle.exchange.specs.Counts.{inTime, oneMore, counted};
 ghost use Rattle.exchange.specs.States.{startOf, passedBy, silenceOf, underOf};
-ghost use Rattle.exchange.specs.Places.{Turns, Answers};
+ghost use Rattle.exchange.specs.Places.{WholeReply, Turns, Answers};
 ghost use Rattle.exchange.specs.Guarded.{over, guarded};
 
 pub mod error;
@@ -141,8 +141,8 @@ fn passed(state: State, overall: RequestTimeout, time: u64) -> State
     }
 }
 
-// What one event in time does. "The notice after the K-th ends the call with the new outcome `pendinglimit` at its arrival time". "Idle changes nothing. End gives disconnected, error gives transport."
-pub fn turn(
+// What one event in time does; of a reply, all that it names is there. "The notice after the K-th ends the call with the new outcome `pendinglimit` at its arrival time". "Idle changes nothing. End gives disconnected, error gives transport."
+fn whole_turn(
     strict: bool,
     asked: Asked,
     overall: RequestTimeout,
@@ -151,6 +151,7 @@ pub fn turn(
     event: Event,
     replies: &[u8],
 ) -> Turn
+    requires { ⌜ WholeReply (now replies) (entryOf event) ⌝ }
     ensures { λ r. ⌜ Turns strict (askedOf asked) (overallOf overall) listens state (entryOf event) (now (replies .entry)) r ⌝ }
 {
     let kind = kind_heard(listens, event);
@@ -160,8 +161,11 @@ pub fn turn(
     let limit = asked.limit;
     let read = counted(state.read, overall, time);
     if kind == 0 {
-        let reply = named(event, replies);
-        match look(strict, asked, hush, replies, reply) {
+        let reply = Place {
+            at: event.offset as usize,
+            len: event.size as usize,
+        };
+        match whole_look(strict, asked, hush, replies, reply) {
             Step::Pending => {
                 let more = allows(limit, notices.all);
                 let notices = counted(notices, overall, time);
@@ -212,6 +216,22 @@ pub fn turn(
         notices,
         reply: Place::NOWHERE,
     })
+}
+
+// The same of any event: a reply is cut at the end of the lent bytes.
+pub fn turn(
+    strict: bool,
+    asked: Asked,
+    overall: RequestTimeout,
+    listens: u16,
+    state: State,
+    event: Event,
+    replies: &[u8],
+) -> Turn
+    ensures { λ r. ⌜ Turns strict (askedOf asked) (overallOf overall) listens state (entryOf event) (now (replies .entry)) r ⌝ }
+{
+    let there = cut(event, replies);
+    whole_turn(strict, asked, overall, listens, state, there, replies)
 }
 
 // "No event in time: suppressed if bit 7 of the sub-function is set and no pending was read, else timeout. It finishes at the deadline."
@@ -304,7 +324,7 @@ fn settle(
         } else {
             let event = event_in(form, events, i);
             i += 1;
-            match turn(strict, asked, overall, listens, state, event, replies) {
+            match whole_turn(strict, asked, overall, listens, state, event, replies) {
                 Turn::On(next) => state = next,
                 Turn::Ends(settled) => break under(overall, settled),
             }

@@ -52,21 +52,22 @@ data-is true d = refl
 data-is false d = refl
 
 -- No log is shorter than a header.
-pub too-short : (l : List ℕ) → length l < 36 → layoutOk l ≡ false
-unfolding layoutOk
+pub too-short : (l : List ℕ) → length l < 36 → laidOut (headerOf l) l ≡ false
 too-short l h = rw (lt-leb (headerSize (formIn (headerOf l))) (length l) (omega arith))
 
 -- A log's layout is sound where all but its fields is, and they are; h is its header.
-module _ (l : List ℕ) {h : Header} (is : h ≡ headerOf l) {laid : Bool} (told : laid ≡ laidOut h l) where
-  by-fields : (fields : Bool) → fieldsOk h (usesOf (h .call)) ≡ fields → layoutOk l ≡ (laid && fields)
+module _ (l : List ℕ) where
+  pub bad-layout : laidOut (headerOf l) l ≡ false → layoutOk l ≡ false
   unfolding layoutOk
-  by-fields fields e = ap (λ (x : Header). laidOut x l && fieldsOk x (usesOf (x .call))) (sym is) ∙ ap₂ (λ (p q : Bool). p && q) (sym told) e
+  bad-layout b = rw b
 
-  pub bad-layout : laid ≡ false → layoutOk l ≡ false
-  bad-layout b = by-fields (fieldsOk h (usesOf (h .call))) refl ∙ rw b
+  module _ {h : Header} (is : h ≡ headerOf l) (laid : laidOut (headerOf l) l ≡ true) where
+    by-fields : {fields : Bool} → fieldsOk h (usesOf (h .call)) ≡ fields → layoutOk l ≡ fields
+    unfolding layoutOk
+    by-fields e = rw laid (ap (λ (x : Header). fieldsOk x (usesOf (x .call))) (sym is) ∙ e)
 
-  pub bad-fields : laid ≡ true → fieldsOk h (usesOf (h .call)) ≡ false → layoutOk l ≡ false
-  bad-fields b e = by-fields false e ∙ rw b
+    pub bad-fields : fieldsOk h (usesOf (h .call)) ≡ false → layoutOk l ≡ false
+    bad-fields e = by-fields e
 
-  pub sound-layout : laid ≡ true → fieldsOk h (usesOf (h .call)) ≡ true → layoutOk l ≡ true
-  sound-layout b e = by-fields true e ∙ rw b
+    pub sound-layout : fieldsOk h (usesOf (h .call)) ≡ true → layoutOk l ≡ true
+    sound-layout e = by-fields e

@@ -1,4 +1,4 @@
--- At most one answer fits the contracts of `ask_of` and of `recorded_in`.
+-- At most one answer fits the contracts of `ask_of`, of `laid_in` and of `recorded_in`.
 use Prim.Native.Nat.{ℕ}
 use mathlib.Core.Bool.{true≢false}
 use mathlib.Core.List.{List, []}
@@ -28,9 +28,11 @@ use Rattle.calls.specs.declared.Ask.{Ask}
 use Rattle.logs.specs.Layout.{said}
 use Rattle.logs.specs.declared.header.Header.{Header}
 use Rattle.logs.proofs.Layouts.{said-once}
-use Rattle.log_call.specs.Asking.{sessionOf, Asks, AskedBy, RecordedIn}
+use Rattle.log_call.specs.Asking.{sessionOf, Asks, AskedBy, LaidIn, RecordedIn}
 use Rattle.log_call.specs.declared.Fields.{Fields}
 use Rattle.log_call.specs.declared.Fields.the-variants as fields
+use Rattle.log_call.specs.declared.Laid.{Laid}
+use Rattle.log_call.specs.declared.Laid.the-variants as laid
 use Rattle.log_call.specs.declared.Recorded.{Recorded}
 use Rattle.log_call.specs.declared.Recorded.the-variants as recorded
 
@@ -132,6 +134,13 @@ unique h (fields.Ask r) (fields.Ask r′) k k′ = ap fields.Ask (asks-unique (k
 unique h (fields.Ask r) fields.Unsound k k′ = absurd (true≢false (sym (k .0) ∙ k′))
 unique h fields.Unsound (fields.Ask r′) k k′ = absurd (true≢false (sym (k′ .0) ∙ k))
 unique h fields.Unsound fields.Unsound k k′ = refl
+
+-- `laid_in`
+pub laid-unique : (l : List ℕ) (r r′ : Laid) → LaidIn l r → LaidIn l r′ → r ≡ r′
+laid-unique l (laid.Out h) (laid.Out h′) k k′ = ap laid.Out (said-once h h′ (k .1 ∙ sym (k′ .1)))
+laid-unique l (laid.Out h) laid.BadLog k k′ = absurd (true≢false (sym (k .0) ∙ k′))
+laid-unique l laid.BadLog (laid.Out h) k k′ = absurd (true≢false (sym (k′ .0) ∙ k))
+laid-unique l laid.BadLog laid.BadLog k k′ = refl
 
 -- `recorded_in`
 pub recorded-unique : (l : List ℕ) (r r′ : Recorded) → RecordedIn l r → RecordedIn l r′ → r ≡ r′

@@ -7,7 +7,7 @@ use lib.Dec.{eqb}
 use lib.ListN.{getD}
 use Rattle.rules.specs.Calls.{Call, Field, testerPresent}
 use Rattle.rules.specs.Logs as rules
-use Rattle.rules.specs.Logs.{Header, formIn, headerOf, flag, usesOf, fieldsOk, layoutOk, some?, choices}
+use Rattle.rules.specs.Logs.{Header, formIn, headerOf, flag, usesOf, fieldsOk, laidOut, layoutOk, some?, choices}
 use Rattle.requests.specs.Meaning.{callFrom}
 use Rattle.calls.specs.Meaning.{settingOf}
 use Rattle.exchange.specs.Meaning.{formOf}
@@ -16,6 +16,8 @@ use Rattle.calls.specs.declared.Ask.{Ask}
 use Rattle.logs.specs.Layout.{said}
 use Rattle.log_call.specs.declared.Fields.{Fields}
 use Rattle.log_call.specs.declared.Fields.the-variants as fields
+use Rattle.log_call.specs.declared.Laid.{Laid}
+use Rattle.log_call.specs.declared.Laid.the-variants as laid
 use Rattle.log_call.specs.declared.Recorded.{Recorded}
 use Rattle.log_call.specs.declared.Recorded.the-variants as recorded
 
@@ -39,6 +41,11 @@ pub record Asks (h : Header) (r : Ask) : Type 0 where
 abbrev pub AskedBy : Header → Fields → Type 0
 AskedBy h (fields.Ask r) = (fieldsOk h (usesOf (h .call)) ≡ true) × Asks h r
 AskedBy h fields.Unsound = fieldsOk h (usesOf (h .call)) ≡ false
+
+-- The log's header, where all of its layout is sound but for what its call uses of the fields; or it is "any other layout".
+abbrev pub LaidIn : List ℕ → Laid → Type 0
+LaidIn l (laid.Out h) = (laidOut (headerOf l) l ≡ true) × (said h ≡ headerOf l)
+LaidIn l laid.BadLog = laidOut (headerOf l) l ≡ false
 
 -- The log's layout is sound, and its header asks this; or it is "any other layout".
 abbrev pub RecordedIn : List ℕ → Recorded → Type 0

@@ -23,7 +23,7 @@ ghost use Rattle.exchange.specs.Meaning.{subOf, overallOf};
 ghost use Rattle.requests.specs.declared.Data.the-variants.{Absent, Present};
 ghost use Rattle.requests.specs.Meaning.{callFrom};
 ghost use Rattle.logs.specs.Layout.{said};
-ghost use Rattle.log_call.specs.Asking.{chosen, Asks, AskedBy, RecordedIn};
+ghost use Rattle.log_call.specs.Asking.{chosen, Asks, AskedBy, LaidIn, RecordedIn};
 
 // "flags u8 (1 strict, 2 server timing, 4 suppressed client, 8 T present, 16 sub-function present, call 0 only, 32 data present)"
 fn flag(flags: u8, weight: u8) -> bool
@@ -132,6 +132,27 @@ pub fn ask_of(h: Header) -> Fields
     }
 }
 
+// A log's header, where every test of the layout passes but that the fields suit the call; or it is no log.
+pub enum Laid {
+    Out(Header),
+    BadLog,
+}
+
+pub fn laid_in(log: &[u8]) -> Laid
+    ensures { λ r. ⌜ LaidIn (now (log .entry)) r ⌝ }
+{
+    // shorter than either header; behind this the compiler knows that what it reads of a header is there
+    if log.len() < 36 {
+        return Laid::BadLog;
+    }
+    let h = read_header(log);
+    if laid_out(log, h) {
+        Laid::Out(h)
+    } else {
+        Laid::BadLog
+    }
+}
+
 // What a log asks: its header and the call of its fields; or it is no log.
 pub enum Recorded {
     Call(Header, Ask),
@@ -141,16 +162,11 @@ pub enum Recorded {
 pub fn recorded_in(log: &[u8]) -> Recorded
     ensures { λ r. ⌜ RecordedIn (now (log .entry)) r ⌝ }
 {
-    // shorter than either header; behind this the compiler knows that what it reads of a header is there
-    if log.len() < 36 {
-        return Recorded::BadLog;
-    }
-    let h = read_header(log);
-    if !laid_out(log, h) {
-        return Recorded::BadLog;
-    }
-    match ask_of(h) {
-        Fields::Ask(ask) => Recorded::Call(h, ask),
-        Fields::Unsound => Recorded::BadLog,
+    match laid_in(log) {
+        Laid::BadLog => Recorded::BadLog,
+        Laid::Out(h) => match ask_of(h) {
+            Fields::Ask(ask) => Recorded::Call(h, ask),
+            Fields::Unsound => Recorded::BadLog,
+        },
     }
 }

@@ -1,10 +1,10 @@
 // The line of an answer: a word for each outcome, and its detail.
-use crate::words;
 use exchange::error::Fault;
 use exchange::error::deviation_number;
 use exchange::types::Answer;
 use exchange::types::Outcome;
 use text::Written;
+use text::words;
 use wire::part;
 ghost use Rattle.rules.specs.Lines as lines;
 ghost use Rattle.exchange.specs.Meaning.{answerOf};

@@ -2,8 +2,10 @@
 use answers::put_answer;
 use exchange::types::Answer;
 use exchange::types::Timing;
-use log_call::Recorded;
-use log_call::recorded_in;
+use log_call::Fields;
+use log_call::Laid;
+use log_call::ask_of;
+use log_call::laid_in;
 use logs::header::Header;
 use logs::layout::address_of;
 use logs::layout::data_of;
@@ -17,7 +19,6 @@ ghost use Rattle.text.specs.Written.{Wrote};
 ghost use Rattle.log_line.specs.Answered.{AnsweredIn};
 
 pub mod answers;
-mod words;
 
 // The answer of the call that a log asks, with the log's header, which says where the reply bytes are that it names; or it is no log.
 pub enum LogAnswer {
@@ -28,32 +29,38 @@ pub enum LogAnswer {
 pub fn answer_of(log: &[u8]) -> LogAnswer
     ensures { λ r. ⌜ AnsweredIn (now (log .entry)) r ⌝ }
 {
-    match recorded_in(log) {
-        Recorded::BadLog => LogAnswer::BadLog,
-        Recorded::Call(h, ask) => {
+    match laid_in(log) {
+        Laid::BadLog => LogAnswer::BadLog,
+        Laid::Out(h) => {
+            // before the call is looked at: the compiler then joins what it decides by the call's number
             let address = address_of(log, h);
             let size = size_of(log, h);
             let data = data_of(log, h);
             let events = events_of(log, h);
             let replies = replies_of(log, h);
-            // as long as the longest request, so that refusal 9 cannot come up
-            let mut request = [0u8; 4095];
             let session = Timing {
                 p2: h.p2,
                 star: h.star,
             };
-            let answered = sessions::in_session(
-                session,
-                ask,
-                &mut request,
-                address,
-                size,
-                data,
-                events,
-                replies,
-            );
-            let answer = answered.answer;
-            LogAnswer::Answer(h, answer)
+            match ask_of(h) {
+                Fields::Unsound => LogAnswer::BadLog,
+                Fields::Ask(ask) => {
+                    // as long as the longest request, so that refusal 9 cannot come up
+                    let mut request = [0u8; 4095];
+                    let answered = sessions::in_session(
+                        session,
+                        ask,
+                        &mut request,
+                        address,
+                        size,
+                        data,
+                        events,
+                        replies,
+                    );
+                    let answer = answered.answer;
+                    LogAnswer::Answer(h, answer)
+                }
+            }
         }
     }
 }

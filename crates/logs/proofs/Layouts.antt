@@ -2,12 +2,12 @@
 use Prim.Native.Nat.{ℕ, _+_, _-_, _≤_, _<_, zero, suc}
 use native.Mathlib.Numerals.{add-one}
 use native.Mathlib.Omega.{arith}
-use mathlib.Core.Bool.{Bool, true, false, _&&_, _||_, and-true}
+use mathlib.Core.Bool.{Bool, true, false, cond, _&&_, _||_, and-true}
 use mathlib.Core.List.{List, [], _∷_}
 use mathlib.Core.Logic.{_⊎_, inl, inr, _≢_}
 use mathlib.Core.Path.{_≡_, refl, sym, ap, _∙_}
-use borrow.Author.Tests.{eq-eqb, ne-eqb}
-use lib.Dec.{leb, eqb}
+use borrow.Author.Tests.{lt-ltb, eq-eqb, ne-eqb}
+use lib.Dec.{leb, ltb, eqb}
 use lib.ListN.{length, getD, drop, drop-of-length-le}
 use lib.Seq.{drop-cons}
 use Rattle.rules.specs.Bytes.{every}
@@ -53,11 +53,25 @@ events-end form bs i n h =
     let done : n - i ≡ 0 = omega arith in
     rw done
 
-pub one-or-two : (k : ℕ) → 1 ≤ k → k ≤ 2 → (eqb k 1 || eqb k 2) ≡ true
-one-or-two zero h l = absurd (omega arith)
-one-or-two (suc zero) h l = refl
-one-or-two (suc (suc zero)) h l = refl
-one-or-two (suc (suc (suc k))) h l = absurd (omega arith)
+-- What was passed up to event i and what is left say what all do.
+pub events-more : (form : Form) (bs : List ℕ) (i n : ℕ) (p b q : Bool) → i < n → b ≡ eventOk (entryAt form bs i)
+    → (p && every eventOk (entriesFrom form bs (n - i) i)) ≡ q → ((p && b) && every eventOk (entriesFrom form bs (n - (i + 1)) (i + 1))) ≡ q
+events-more form bs i n true b q h e k = sym (event-turn form bs i n b h (sym e)) ∙ k
+events-more form bs i n false b q h e k = k
+
+pub events-last : (form : Form) (bs : List ℕ) (i n : ℕ) (p q : Bool) → n ≤ i → (p && every eventOk (entriesFrom form bs (n - i) i)) ≡ q → p ≡ q
+events-last form bs i n p q h k = sym (and-true p) ∙ sym (ap (λ (b : Bool). p && b) (events-end form bs i n h)) ∙ k
+
+-- An event's unused fields, asked whatever its kind: a kind 3 has its number in place of a length.
+pub none-used : (k o s : ℕ) → ((eqb k 0 || ltb 3 k) || (eqb o 0 && eqb (cond (eqb k 3) 0 s) 0)) ≡
+    cond (eqb k 1 || eqb k 2) (eqb o 0 && eqb s 0) (cond (eqb k 3) (eqb o 0) true)
+none-used zero o s = refl
+none-used (suc zero) o s = refl
+none-used (suc (suc zero)) o s = refl
+none-used (suc (suc (suc zero))) o s = and-true (eqb o 0)
+none-used (suc (suc (suc (suc k)))) o s =
+    let n = suc (suc (suc (suc k))) in
+    rw (lt-ltb 3 n (omega arith), ne-eqb n 0 (λ e. omega arith), ne-eqb n 1 (λ e. omega arith), ne-eqb n 2 (λ e. omega arith), ne-eqb n 3 (λ e. omega arith))
 
 -- Whether the version is one of the two, from the one test or the other.
 pub either : {A B : Type 0} (v : ℕ) {t : Bool} → A ⊎ B → (A → (v ≡ 1) × (t ≡ eqb v 1)) → (B → (v ≢ 1) × (t ≡ eqb v 2)) → t ≡ (eqb v 1 || eqb v 2)

@@ -125,30 +125,27 @@ fn areas_ok(h: Header, n: usize) -> bool
     all(&tests)
 }
 
-// "kind 3 puts its number in length"; "an event of unknown kind has no unused field"
+// "kind 3 puts its number in length"; "an event of unknown kind has no unused field". Nothing is skipped by the kind, since what kind comes next is not foreseen.
 pub fn event_ok(event: Event) -> bool
     ensures { λ r. ⌜ r ≡ eventOk (entryOf event) ⌝ }
 {
     let kind = event.kind;
-    match kind {
-        1 | 2 => event.offset == 0 && event.size == 0,
-        3 => event.offset == 0,
-        _ => true,
-    }
+    let size = if kind == 3 { 0 } else { event.size };
+    (kind == 0) | (kind > 3) | ((event.offset == 0) & (size == 0))
 }
 
+// All are asked, as in `all`.
 fn events_ok(form: Form, events: &[u8]) -> bool
     ensures { λ r. ⌜ r ≡ every eventOk (entries (formOf form) (now (events .entry))) ⌝ }
 {
     let n = event_count(form, events);
+    let mut passed = true;
     let mut i = 0;
     while i < n {
-        if !event_ok(event_at(form, events, i)) {
-            return false;
-        }
+        passed = passed & event_ok(event_at(form, events, i));
         i += 1;
     }
-    true
+    passed
 }
 
 // "The areas follow in that order": the events, and the replies behind them.

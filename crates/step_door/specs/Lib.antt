@@ -1,2 +1,2 @@
--- What the contracts of `step_door`, `begin_door` and `begin_alfid_door` cite besides `rules`.
+-- What the contracts of `step_door`, `tick_door`, `begin_door` and `begin_alfid_door` cite besides `rules`.
 pub mod Stepping

@@ -9,7 +9,7 @@ use state_numbers::byte;
 use state_numbers::engine_in;
 use state_numbers::told;
 use wire::part;
-ghost use Rattle.step_door.specs.Stepping.{entry, Ticked, Handed};
+ghost use Rattle.step_door.specs.Stepping.{entry, Handed};
 
 // One event, with the request that was sent and the reply bytes lent for it. 0 where it was taken; 10, 20 or 21 where it is refused, and 1 where the state is none: then the state stays.
 #[no_mangle]
@@ -43,27 +43,6 @@ pub extern "C" fn bintrochis_door_event(
     let address = part(request, 2, address_width);
     let size = part(request, 2 + address_width, byte(s[27]) as usize);
     let stepped = steps::event(engine_in(ask, s), address, size, event, replies);
-    let refusal = stepped.refusal;
-    if refusal != 0 {
-        return refusal;
-    }
-    *state = told(stepped.engine, asking(s));
-    0
-}
-
-// The time since sending, in milliseconds. The answers are those of an event, 10 aside.
-#[no_mangle]
-pub extern "C" fn bintrochis_door_tick(state: &mut [u64; 28], time: u64) -> u8
-    ensures { λ r. ⌜ Ticked (now (state .entry)) time r (now (state .exit)) ⌝ }
-{
-    let s = *state;
-    if s[0] != WAITING {
-        return 21;
-    }
-    let Fields::Ask(ask) = ask_in(s) else {
-        return 1;
-    };
-    let stepped = steps::tick(engine_in(ask, s), time);
     let refusal = stepped.refusal;
     if refusal != 0 {
         return refusal;

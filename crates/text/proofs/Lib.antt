@@ -3,3 +3,4 @@ pub mod Writing
 pub mod Numerals
 pub mod Lines
 pub mod Adding
+pub mod Standing

@@ -41,14 +41,14 @@ none l at = record {
   line = sym (rw (append-nil (take at l), add-zero at) (take-append-drop at l));
 }
 
--- Six writes, each behind the one before.
-pub joined : {l a b c d e f m₁ m₂ m₃ m₄ m₅ m₆ : List ℕ} {n₁ n₂ n₃ n₄ n₅ r : ℕ} →
-    length (a ++ b ++ c ++ d ++ e ++ f) ≤ length l →
-    Put l 0 a m₁ n₁ → Put m₁ n₁ b m₂ n₂ → Put m₂ n₂ c m₃ n₃ → Put m₃ n₃ d m₄ n₄ → Put m₄ n₄ e m₅ n₅ → Put m₅ n₅ f m₆ r →
-    Put l 0 (a ++ b ++ c ++ d ++ e ++ f) m₆ r
-joined h p₁ p₂ p₃ p₄ p₅ p₆ =
+-- Five writes, each behind the one before.
+pub joined : {l a b c d e m₁ m₂ m₃ m₄ m₅ : List ℕ} {at n₁ n₂ n₃ n₄ r : ℕ} →
+    at + length (a ++ b ++ c ++ d ++ e) ≤ length l →
+    Put l at a m₁ n₁ → Put m₁ n₁ b m₂ n₂ → Put m₂ n₂ c m₃ n₃ → Put m₃ n₃ d m₄ n₄ → Put m₄ n₄ e m₅ r →
+    Put l at (a ++ b ++ c ++ d ++ e) m₅ r
+joined h p₁ p₂ p₃ p₄ p₅ =
     let fits = simp length-append at h in
-    then (omega arith) (then (omega arith) (then (omega arith) (then (omega arith) (then (omega arith) p₁ p₂) p₃) p₄) p₅) p₆
+    then (omega arith) (then (omega arith) (then (omega arith) (then (omega arith) p₁ p₂) p₃) p₄) p₅
 
 -- What `put_line` says and leaves, where the text has no room and where it stands at the front.
 module _ (bs l : List ℕ) where

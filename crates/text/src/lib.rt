@@ -7,6 +7,8 @@ ghost use lib.ListN.{length};
 ghost use Rattle.rules.specs.Lines.{digit, decimal, hex, hexOrDash, spaced};
 ghost use Rattle.text.specs.Written.{Put, Wrote, Appended, text, counted, shown, room, behind, hexBehind, item};
 
+pub mod words;
+
 // A buffer of so many bytes has room for every line of document 01. The longest is a deviation's: the word's 9 letters, 8,192 digits for its number and
 // a reply of 4,095 bytes, 10 digits of time (2 · 4,294,967,295 at most), 3 digits each of events and notices, four spaces and the newline.
 pub const LONGEST: usize = 8222;
@@ -99,9 +101,12 @@ fn put_number(line: &mut [u8], at: usize, value: u64) -> usize
     ensures { λ r. ⌜ Put (now (line .entry)) at (spaced (decimal value)) (now (line .exit)) r ⌝ }
 {
     let n = put_byte(line, at, b' ');
-    // most counts have one digit
+    // most counts have one digit or two
     if value < 10 {
         return put_byte(line, n, digit(value as u8));
+    }
+    if value < 100 {
+        return put_two(line, n, value);
     }
     put_decimal(line, n, value)
 }
@@ -119,24 +124,24 @@ fn put_detail(line: &mut [u8], at: usize, head: &[u8], bytes: &[u8]) -> usize
     put_hex(line, m, bytes)
 }
 
-fn write(
+// What stands behind the word, from where that ends.
+fn put_rest(
     line: &mut [u8],
-    word: &[u8],
+    at: usize,
     time: u64,
     events: u64,
     notices: u64,
     head: &[u8],
     bytes: &[u8],
 ) -> usize
-    requires { ⌜ room (length (now word)) time events notices (length (now head) + length (now bytes)) ≤ length (now line) ⌝ }
-    ensures { λ r. ⌜ Put (now (line .entry)) 0 (text (now (word .entry)) time events notices (now (head .entry) ++ now (bytes .entry))) (now (line .exit)) r ⌝ }
+    requires { ⌜ room at time events notices (length (now head) + length (now bytes)) ≤ length (now line) ⌝ }
+    ensures { λ r. ⌜ Put (now (line .entry)) at (text [] time events notices (now (head .entry) ++ now (bytes .entry))) (now (line .exit)) r ⌝ }
 {
-    let a = put_word(line, 0, word);
-    let b = put_number(line, a, time);
-    let c = put_number(line, b, events);
-    let d = put_number(line, c, notices);
-    let e = put_detail(line, d, head, bytes);
-    put_byte(line, e, b'\n')
+    let a = put_number(line, at, time);
+    let b = put_number(line, a, events);
+    let c = put_number(line, b, notices);
+    let d = put_detail(line, c, head, bytes);
+    put_byte(line, d, b'\n')
 }
 
 // Whether a line of these parts fits; the lengths may be any, and their sum may pass 64 bits.
@@ -159,7 +164,27 @@ fn fits(line: usize, word: usize, numbers: usize, head: usize, bytes: usize) -> 
     left > 0
 }
 
-// Writes the line at the buffer's front, or nothing where there is no room for it. The 5 are its spaces and the newline.
+// Whether a line with these numbers fits. Most buffers have room for the longest, of 20 digits each, so digits are not counted there. The 5 are the
+// spaces and the newline, and so are 5 of the 65.
+fn has_room(
+    line: usize,
+    word: usize,
+    time: u64,
+    events: u64,
+    notices: u64,
+    head: usize,
+    bytes: usize,
+) -> bool
+    ensures { λ r. ⌜ r ≡ leb (room word time events notices (head + bytes)) line ⌝ }
+{
+    if fits(line, word, 65, head, bytes) {
+        return true;
+    }
+    let numbers = decimal_length(time) + decimal_length(events) + decimal_length(notices) + 5;
+    fits(line, word, numbers, head, bytes)
+}
+
+// Writes the line at the buffer's front, or nothing where there is no room for it.
 pub fn put_line(
     line: &mut [u8],
     word: &[u8],
@@ -171,11 +196,19 @@ pub fn put_line(
 ) -> Written
     ensures { λ r. ⌜ Wrote (text (now (word .entry)) time events notices (now (head .entry) ++ now (bytes .entry))) (now (line .entry)) r (now (line .exit)) ⌝ }
 {
-    let numbers = decimal_length(time) + decimal_length(events) + decimal_length(notices) + 5;
-    if !fits(line.len(), word.len(), numbers, head.len(), bytes.len()) {
+    if !has_room(
+        line.len(),
+        word.len(),
+        time,
+        events,
+        notices,
+        head.len(),
+        bytes.len(),
+    ) {
         return Written::NoRoom;
     }
-    Written::Line(write(line, word, time, events, notices, head, bytes))
+    let a = put_word(line, 0, word);
+    Written::Line(put_rest(line, a, time, events, notices, head, bytes))
 }
 
 // Writes a word, and a number behind a space, from index `at` on; the answer is where they end. Where there is no room, nothing changes and

@@ -51,25 +51,26 @@ returns-2 c =
     (turned-by-events (behind prepared) (prepared .prepare .ensures) (passed .if1 .left) (exchanged .exchange .ensures) (judged .is-refused .ensures)
     (c .before .if2 .taken))
 
-write-requires : tie.Need-write-requires
-write-requires c κs = search needs
-
 concluded-requires : tie.Need-concluded-requires
 concluded-requires c κs = search needs
+
+write-requires : tie.Need-write-requires
+write-requires c κs = search needs
 
 same-length : tie.Need-same-length
 same-length c = search needs
 
 returns-3 : tie.Need-returns-3
 returns-3 c =
-    let wrote = c .before .before .before in
-    let kept = wrote .before .before in
+    let wrote = c .before .before in
+    let told = wrote .before .before in
+    let kept = told .before in
     let judged = kept .before in
     let exchanged = judged .before in
     let passed = exchanged .before in
     let prepared = passed .before in
     carried-out (behind prepared) (prepared .prepare .ensures) (passed .if1 .left) (exchanged .exchange .ensures) (judged .is-refused .ensures)
-    (kept .if2 .left) (wrote .write .ensures) (c .concluded .ensures)
+    (kept .if2 .left) (wrote .write .ensures) (told .concluded .ensures)
 
 pub run-spec : {M : Type 1} → statement M
 run-spec =
@@ -82,7 +83,7 @@ run-spec =
     is-refused-requires
     refused-requires-2
     returns-2
-    write-requires
     concluded-requires
+    write-requires
     same-length
     returns-3)

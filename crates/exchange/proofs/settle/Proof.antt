@@ -4,7 +4,7 @@ use native.Mathlib.Omega.{arith}
 use mathlib.Core.Option.{Option}
 use mathlib.Core.Path.{refl, subst}
 use borrow.Author.Needs.{needs}
-use Rattle.exchange.proofs.Settling.{Held, held-first, no-more, in-time-as, too-late, after-idle, after-on, ends-it}
+use Rattle.exchange.proofs.Settling.{Held, held-first, no-more, in-time-as, too-late, next-whole, after-idle, after-on, ends-it}
 use Rattle.exchange.specs.Meaning.{askedOf, overallOf, formOf}
 use Rattle.exchange.proofs.settle.Statement.{statement}
 use Rattle.exchange.proofs.settle.Tie as tie
@@ -78,8 +78,10 @@ event-in-requires c κs =
 add-i-2 : tie.Need-add-i-2 Inv-loop μ-loop
 add-i-2 c = omega arith
 
-turn-requires : tie.Need-turn-requires Inv-loop μ-loop
-turn-requires c κs = search needs
+whole-turn-requires : tie.Need-whole-turn-requires Inv-loop μ-loop
+whole-turn-requires c κs =
+    let more = c .before .before .before .before .before .before in
+    next-whole (overall more) (more .before .loop .inv) (c .event-in .ensures) (more .if1 .left)
 
 enum-known-next : tie.Need-enum-known-next Inv-loop μ-loop
 enum-known-next c = search needs
@@ -97,7 +99,7 @@ loop-again-2 c =
     let more = timed .before in
     let here = event .event-in .ensures in
     let held = more .before .loop .inv in
-    after-on (overall more) held here (more .if1 .left) (turned .turn .ensures)
+    after-on (overall more) held here (more .if1 .left) (turned .whole-turn .ensures)
     (in-time-as (overall more) held (timed .time-in .ensures) here (early .if2 .left)) (c .before .next .given .1)
 
 enum-known-settled : tie.Need-enum-known-settled Inv-loop μ-loop
@@ -129,7 +131,7 @@ returns-3 c =
     let more = timed .before in
     let here = event .event-in .ensures in
     let held = more .before .loop .inv in
-    ends-it (overall more) held here (more .if1 .left) (turned .turn .ensures)
+    ends-it (overall more) held here (more .if1 .left) (turned .whole-turn .ensures)
     (in-time-as (overall more) held (timed .time-in .ensures) here (early .if2 .left)) (c .before .before .settled .given .1) (c .under3 .ensures)
 
 pub settle-spec : {M : Type 1} → statement M
@@ -154,7 +156,7 @@ settle-spec =
     loop-again
     event-in-requires
     add-i-2
-    turn-requires
+    whole-turn-requires
     enum-known-next
     loop-less-2
     loop-again-2

@@ -1,113 +1,27 @@
 -- `exchange::turn` meets its contract.
-use Rattle.exchange.proofs.Turning.{turns-notice, turns-limit, turns-reply, turns-idle, turns-ended, turns-failed}
-use mathlib.Core.Path.{refl}
 use borrow.Author.Needs.{needs}
+use mathlib.Core.Path.{sym, subst}
+use Rattle.rules.specs.Events.{Entry}
+use Rattle.exchange.specs.Meaning.{askedOf, overallOf, entryOf}
+use Rattle.exchange.specs.Places.{WholeReply, Turns}
+use Rattle.exchange.proofs.Turning.{cut-whole, cut-turns}
 use Rattle.exchange.proofs.turn.Statement.{statement}
 use Rattle.exchange.proofs.turn.Tie as tie
-use Rattle.exchange.proofs.turn.Reads as reads
 
--- What was said of the kind, seen from behind the first count.
-abbrev heard : tie.After-counted → tie.After-kind-heard
-heard c = c .before .before .before
+cut-requires : tie.Need-cut-requires
+cut-requires c κs = search needs
 
-kind-heard-requires : tie.Need-kind-heard-requires
-kind-heard-requires c κs = search needs
-
-cast-time : tie.Need-cast-time
-cast-time c = search needs
-
-counted-requires : tie.Need-counted-requires
-counted-requires c κs = search needs
-
-named-requires : tie.Need-named-requires
-named-requires c κs = search needs
-
-look-requires : tie.Need-look-requires
-look-requires c κs = search needs
-
-enum-told : tie.Need-enum-told
-enum-told c = search needs
-
-allows-requires : tie.Need-allows-requires
-allows-requires c κs = search needs
-
-counted-requires-2 : tie.Need-counted-requires-2
-counted-requires-2 c κs = search needs
-
-cast-t22 : tie.Need-cast-t22
-cast-t22 c = search needs
-
-add-t23 : tie.Need-add-t23
-add-t23 c = search needs
+whole-turn-requires : tie.Need-whole-turn-requires
+whole-turn-requires c κs =
+    let args = c .before .before .args in
+    subst (WholeReply (args .replies .now)) (sym (c .cut .ensures)) (cut-whole (args .replies .now) (entryOf (args .event)))
 
 returns : tie.Need-returns
 returns c =
-    let at-counted-2 = c .before .before in
-    let at-look = at-counted-2 .before .before .before .before in
-    let at-named = at-look .before in
-    let at-if = at-named .before in
-    let at-counted = at-if .before in
-    turns-notice (heard at-counted .kind-heard .ensures) (at-counted .counted .ensures) (at-if .if1 .taken) (at-named .named .ensures) (at-look .look .ensures)
-    (at-counted-2 .before .before .enum-told .given .1) (at-counted-2 .counted2 .ensures)
-    (at-counted-2 .before .allows .ensures) (c .before .if2 .taken)
-
-returns-2 : tie.Need-returns-2
-returns-2 c =
-    let at-look = c .before .before .before .before .before in
-    let at-named = at-look .before in
-    let at-if = at-named .before in
-    let at-counted = at-if .before in
-    turns-limit (heard at-counted .kind-heard .ensures) (at-counted .counted .ensures) (at-if .if1 .taken) (at-named .named .ensures) (at-look .look .ensures)
-    (c .before .before .before .enum-told .given .1) (c .before .counted2 .ensures) (c .before .before .allows .ensures) (c .if2 .left)
-
-enum-known-outcome : tie.Need-enum-known-outcome
-enum-known-outcome c = search needs
-
-finish-requires : tie.Need-finish-requires
-finish-requires c κs = search needs
-
-returns-3 : tie.Need-returns-3
-returns-3 c =
-    let at-look = c .before .before .before .before in
-    let at-named = at-look .before in
-    let at-if = at-named .before in
-    let at-counted = at-if .before in
-    turns-reply (heard at-counted .kind-heard .ensures) (at-counted .counted .ensures) (at-if .if1 .taken) (at-named .named .ensures) (at-look .look .ensures)
-    (c .before .before .outcome .given .1) (c .finish .ensures)
-
-passed-requires : tie.Need-passed-requires
-passed-requires c κs = search needs
-
-returns-4 : tie.Need-returns-4
-returns-4 c = rw (c .passed .ensures) (turns-idle (heard (c .before .before .before) .kind-heard .ensures) refl (c .before .if3 .taken))
-
-returns-5 : tie.Need-returns-5
-returns-5 c = turns-ended (heard (c .before .before .before) .kind-heard .ensures) (c .before .before .before .counted .ensures) (c .if4 .taken)
-
-returns-6 : tie.Need-returns-6
-returns-6 c = turns-failed (heard (c .before .before .before) .kind-heard .ensures) (c .before .before .before .counted .ensures)
-    (c .before .before .if1 .left) (c .before .if3 .left) (c .if4 .left)
+    let args = c .before .before .before .args in
+    cut-turns (args .listens) (args .replies .now) (entryOf (args .event))
+    (subst (λ (e : Entry). Turns (args .strict) (askedOf (args .asked)) (overallOf (args .overall)) (args .listens) (args .state) e (args .replies .now) (c .whole-turn .result))
+    (c .before .cut .ensures) (c .whole-turn .ensures))
 
 pub turn-spec : {M : Type 1} → statement M
-turn-spec =
-    tie.close
-    (tie.spec
-    kind-heard-requires
-    cast-time
-    counted-requires
-    named-requires
-    look-requires
-    enum-told
-    allows-requires
-    counted-requires-2
-    cast-t22
-    add-t23
-    returns
-    returns-2
-    enum-known-outcome
-    finish-requires
-    returns-3
-    passed-requires
-    returns-4
-    returns-5
-    returns-6)
+turn-spec = tie.close (tie.spec cut-requires whole-turn-requires returns)

@@ -1,28 +1,20 @@
 -- `log_call::recorded_in` meets its contract.
-use borrow.Author.Tests.{not-true, not-false}
-use Rattle.log_call.specs.Asking.{AskedBy}
-use Rattle.log_call.specs.declared.Fields.the-variants as fields
-use Rattle.log_call.proofs.Headers.{too-short, bad-layout, bad-fields, sound-layout}
-use Rattle.logs.specs.Layout.{said}
+use mathlib.Core.Path.{subst}
 use borrow.Author.Needs.{needs}
+use Rattle.logs.specs.Layout.{said}
+use Rattle.log_call.specs.Asking.{AskedBy, LaidIn}
+use Rattle.log_call.proofs.Headers.{bad-layout, bad-fields, sound-layout}
 use Rattle.log_call.proofs.recorded_in.Statement.{statement}
 use Rattle.log_call.proofs.recorded_in.Tie as tie
-use Rattle.log_call.proofs.recorded_in.Reads as reads
 
-read-header-requires : tie.Need-read-header-requires
-read-header-requires c κs = search needs
+laid-in-requires : tie.Need-laid-in-requires
+laid-in-requires c κs = search needs
 
-laid-out-requires : tie.Need-laid-out-requires
-laid-out-requires c κs = search needs
+enum-told : tie.Need-enum-told
+enum-told c = search needs
 
-returns : tie.Need-returns
-returns c = too-short (c .before .before .args .log .now) (c .if1 .taken)
-
-returns-2 : tie.Need-returns-2
-returns-2 c =
-    let at-read-header = c .before .before in
-    let start = at-read-header .before .before .before in
-    bad-layout (start .args .log .now) (at-read-header .read-header .ensures) (c .before .laid-out .ensures) (not-true _ (c .if2 .taken))
+enum-known-h : tie.Need-enum-known-h
+enum-known-h c = search needs
 
 ask-of-requires : tie.Need-ask-of-requires
 ask-of-requires c κs = search needs
@@ -30,44 +22,44 @@ ask-of-requires c κs = search needs
 enum-known-ask : tie.Need-enum-known-ask
 enum-known-ask c = search needs
 
-enum-told : tie.Need-enum-told
-enum-told c = search needs
+enum-told-2 : tie.Need-enum-told-2
+enum-told-2 c = search needs
+
+returns : tie.Need-returns
+returns c =
+    let read = c .before .before in
+    let l = read .before .before .args .log .now in
+    bad-layout l (subst (LaidIn l) (c .enum-told .given .1) (read .laid-in .ensures))
+
+returns-2 : tie.Need-returns-2
+returns-2 c =
+    let asked = c .before .before .before in
+    let told = asked .before .before in
+    let read = told .before .before in
+    let l = read .before .before .args .log .now in
+    let laid = subst (LaidIn l) (told .h .given .1) (read .laid-in .ensures) in
+    let asks = subst (AskedBy (said (told .h .given .0 .0))) (c .before .ask .given .1) (asked .ask-of .ensures) in
+    (sound-layout l (laid .1) (laid .0) (asks .0), laid .1, asks .1)
 
 returns-3 : tie.Need-returns-3
 returns-3 c =
-    let at-ask-of = c .before .before .before in
-    let at-if = at-ask-of .before in
-    let at-laid-out = at-if .before in
-    let at-read-header = at-laid-out .before in
-    let start = at-read-header .before .before .before in
-    let asked : AskedBy (said (at-read-header .read-header .result)) (fields.Ask (c .before .ask .given .0 .0)) = rw (c .before .ask .given .1) at
-    (at-ask-of .ask-of .ensures) in (
-      sound-layout (start .args .log .now) (at-read-header .read-header .ensures) (at-laid-out .laid-out .ensures) (not-false _ (at-if .if2 .left))
-          (asked .0),
-      (at-read-header .read-header .ensures),
-      asked .1,
-    )
-
-returns-4 : tie.Need-returns-4
-returns-4 c =
-    let at-if = c .before .before .before in
-    let at-laid-out = at-if .before in
-    let at-read-header = at-laid-out .before in
-    let start = at-read-header .before .before .before in
-    let asked : AskedBy (said (at-read-header .read-header .result)) fields.Unsound = rw (c .enum-told .given .1) at
-    (c .before .before .ask-of .ensures) in bad-fields (start .args .log .now) (at-read-header .read-header .ensures) (at-laid-out .laid-out .ensures)
-    (not-false _ (at-if .if2 .left)) asked
+    let asked = c .before .before in
+    let told = asked .before .before in
+    let read = told .before .before in
+    let l = read .before .before .args .log .now in
+    let laid = subst (LaidIn l) (told .h .given .1) (read .laid-in .ensures) in
+    bad-fields l (laid .1) (laid .0) (subst (AskedBy (said (told .h .given .0 .0))) (c .enum-told2 .given .1) (asked .ask-of .ensures))
 
 pub recorded-in-spec : {M : Type 1} → statement M
 recorded-in-spec =
     tie.close
     (tie.spec
-    returns
-    read-header-requires
-    laid-out-requires
-    returns-2
+    laid-in-requires
+    enum-told
+    enum-known-h
     ask-of-requires
     enum-known-ask
-    enum-told
-    returns-3
-    returns-4)
+    enum-told-2
+    returns
+    returns-2
+    returns-3)

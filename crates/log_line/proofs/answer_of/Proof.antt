@@ -1,16 +1,15 @@
 -- `log_line::answer_of` meets its contract.
-use mathlib.Core.Path.{_≡_, subst}
-use Rattle.log_call.specs.Asking.{RecordedIn}
-use Rattle.log_call.specs.declared.Recorded.{Recorded}
-use Rattle.logs.specs.Layout.{said}
-use Rattle.log_line.proofs.Answering.{answered}
+use mathlib.Core.Path.{subst}
 use borrow.Author.Needs.{needs}
+use Rattle.logs.specs.Layout.{said}
+use Rattle.log_call.specs.Asking.{AskedBy, LaidIn}
+use Rattle.log_call.proofs.Headers.{bad-layout, bad-fields, sound-layout}
+use Rattle.log_line.proofs.Answering.{answered}
 use Rattle.log_line.proofs.answer_of.Statement.{statement}
 use Rattle.log_line.proofs.answer_of.Tie as tie
-use Rattle.log_line.proofs.answer_of.Reads as reads
 
-recorded-in-requires : tie.Need-recorded-in-requires
-recorded-in-requires c κs = search needs
+laid-in-requires : tie.Need-laid-in-requires
+laid-in-requires c κs = search needs
 
 enum-told : tie.Need-enum-told
 enum-told c = search needs
@@ -33,6 +32,15 @@ events-of-requires c κs = search needs
 replies-of-requires : tie.Need-replies-of-requires
 replies-of-requires c κs = search needs
 
+ask-of-requires : tie.Need-ask-of-requires
+ask-of-requires c κs = search needs
+
+enum-told-2 : tie.Need-enum-told-2
+enum-told-2 c = search needs
+
+enum-known-ask : tie.Need-enum-known-ask
+enum-known-ask c = search needs
+
 slice-aggregate-in-session : tie.Need-slice-aggregate-in-session
 slice-aggregate-in-session c = search needs
 
@@ -40,12 +48,26 @@ in-session-requires : tie.Need-in-session-requires
 in-session-requires c κs = search needs
 
 returns : tie.Need-returns
-returns c = subst (RecordedIn ((c .before .before .before .before .args .log .now))) ((c .enum-told .given .1)) ((c .before .before .recorded-in .ensures))
+returns c =
+    let read = c .before .before in
+    let l = read .before .before .args .log .now in
+    bad-layout l (subst (LaidIn l) (c .enum-told .given .1) (read .laid-in .ensures))
 
 returns-2 : tie.Need-returns-2
 returns-2 c =
+    let asked = c .before .before in
+    let told = asked .before .before .before .before .before .before .before in
+    let read = told .before .before in
+    let l = read .before .before .args .log .now in
+    let laid = subst (LaidIn l) (told .h .given .1) (read .laid-in .ensures) in
+    bad-fields l (laid .1) (laid .0) (subst (AskedBy (said (told .h .given .0 .0))) (c .enum-told2 .given .1) (asked .ask-of .ensures))
+
+returns-3 : tie.Need-returns-3
+returns-3 c =
     let ran = c .before .before in
-    let replies = ran .before .before in
+    let chosen = ran .before .before .before in
+    let asked = chosen .before .before in
+    let replies = asked .before in
     let events = replies .before in
     let «data» = events .before in
     let size = «data» .before in
@@ -53,18 +75,20 @@ returns-2 c =
     let told = address .before .before in
     let read = told .before .before in
     let l = read .before .before .args .log .now in
-    let k = subst (RecordedIn l) (told .h .given .1) (read .recorded-in .ensures) in
+    let h = said (told .h .given .0 .0) in
+    let laid = subst (LaidIn l) (told .h .given .1) (read .laid-in .ensures) in
+    let asks = subst (AskedBy h) (chosen .ask .given .1) (asked .ask-of .ensures) in
     let x =
-    answered l (said (told .h .given .0 .0)) (k .1) (k .2) (address .address-of .ensures) (size .size-of .ensures) («data» .data-of .ensures)
+    answered l h (laid .1) (asks .1) (address .address-of .ensures) (size .size-of .ensures) («data» .data-of .ensures)
     (events .events-of .ensures) (replies .replies-of .ensures) (ran .in-session .ensures)
     in
-    (k .0, k .1, x)
+    (sound-layout l (laid .1) (laid .0) (asks .0), laid .1, x)
 
 pub answer-of-spec : {M : Type 1} → statement M
 answer-of-spec =
     tie.close
     (tie.spec
-    recorded-in-requires
+    laid-in-requires
     enum-told
     enum-known-h
     address-of-requires
@@ -72,7 +96,11 @@ answer-of-spec =
     data-of-requires
     events-of-requires
     replies-of-requires
+    ask-of-requires
+    enum-told-2
+    enum-known-ask
     slice-aggregate-in-session
     in-session-requires
     returns
-    returns-2)
+    returns-2
+    returns-3)

@@ -1,11 +1,20 @@
 -- `headed` meets its contract.
+use Prim.Native.Nat.{ℕ, zero, suc, _≤_}
 use native.Mathlib.Omega.{arith}
-use mathlib.Core.Bool.{and-true}
+use mathlib.Core.Bool.{true, _||_, and-true}
+use mathlib.Core.Path.{_≡_, refl}
+use lib.Dec.{eqb}
 use borrow.Author.Needs.{needs}
 use borrow.Author.Tests.{le-leb, lt-leb, ne-eqb}
-use Rattle.logs.proofs.Layouts.{one-or-two}
 use Rattle.mend.proofs.headed.Statement.{statement}
 use Rattle.mend.proofs.headed.Tie as tie
+
+-- A version between is one of the two.
+one-or-two : (k : ℕ) → 1 ≤ k → k ≤ 2 → (eqb k 1 || eqb k 2) ≡ true
+one-or-two zero h l = absurd (omega arith)
+one-or-two (suc zero) h l = refl
+one-or-two (suc (suc zero)) h l = refl
+one-or-two (suc (suc (suc k))) h l = absurd (omega arith)
 
 header-size-requires : tie.Need-header-size-requires
 header-size-requires c κs = search needs

@@ -1,38 +1,24 @@
--- `layout::events_ok` meets its contract: the events before i are sound.
-use Prim.Native.Nat.{_+_, _-_, _≤_}
+-- `layout::events_ok` meets its contract: what passed up to i and what is left say what all do.
+use Prim.Native.Nat.{_-_, _≤_}
 use native.Mathlib.Nat.{sub-zero}
 use native.Mathlib.Omega.{arith}
-use mathlib.Core.Bool.{Bool, true, false, _&&_}
-use mathlib.Core.Path.{_≡_, sym, _∙_, ap}
+use mathlib.Core.Bool.{_&&_}
+use mathlib.Core.Path.{_≡_, _∙_, ap}
 use borrow.Author.Needs.{needs}
-use borrow.Author.Tests.{not-true, not-false}
 use Rattle.rules.specs.Bytes.{every}
 use Rattle.rules.specs.Events.{entriesFrom, entries}
 use Rattle.rules.specs.Logs.{eventOk}
 use Rattle.exchange.specs.Meaning.{formOf}
-use Rattle.logs.proofs.Layouts.{event-turn, events-end}
+use Rattle.logs.proofs.Layouts.{events-more, events-last}
 use Rattle.logs.proofs.layout.events_ok.Statement.{statement}
 use Rattle.logs.proofs.layout.events_ok.Tie as tie
 
 abbrev Inv-loop : tie.InvT-loop
-Inv-loop form events n i₀ i = (i ≤ n) × (every eventOk (entriesFrom (formOf form) events (n - i) i) ≡ every eventOk (entries (formOf form) events))
+Inv-loop form events n passed₀ i₀ passed i =
+    (i ≤ n) × ((passed && every eventOk (entriesFrom (formOf form) events (n - i) i)) ≡ every eventOk (entries (formOf form) events))
 
 abbrev μ-loop : tie.MeasureT-loop
-μ-loop form events n i₀ i = n - i
-
--- One turn: `event_ok` told of event i.
-turn : (e : tie.After-event-ok Inv-loop μ-loop) (b : Bool) → e .event-ok .result ≡ b →
-    let l = e .before .before .before in
-    let x = l .before .before .before .args in
-    let form = formOf (x .form) in
-    (b && every eventOk (entriesFrom form (x .events .now) (l .before .event-count .result - (l .loop .i + 1)) (l .loop .i + 1))) ≡
-    every eventOk (entries form (x .events .now))
-turn e b r =
-    let test = e .before .before in
-    let l = test .before in
-    let x = l .before .before .before .args in
-    let told = sym (ap eventOk (e .before .event-at .ensures)) ∙ sym (e .event-ok .ensures) ∙ r in
-    sym (event-turn (formOf (x .form)) (x .events .now) (l .loop .i) (l .before .event-count .result) b (test .loop-test .taken) told) ∙ l .loop .inv .1
+μ-loop form events n passed₀ i₀ passed i = n - i
 
 event-count-requires : tie.Need-event-count-requires Inv-loop μ-loop
 event-count-requires c κs = search needs
@@ -46,9 +32,6 @@ event-at-requires c κs = search needs
 event-ok-requires : tie.Need-event-ok-requires Inv-loop μ-loop
 event-ok-requires c κs = search needs
 
-returns : tie.Need-returns Inv-loop μ-loop
-returns c = turn (c .before) false (not-true _ (c .if1 .taken))
-
 add-i : tie.Need-add-i Inv-loop μ-loop
 add-i c = omega arith
 
@@ -56,13 +39,19 @@ loop-less : tie.Need-loop-less Inv-loop μ-loop
 loop-less c = omega arith
 
 loop-again : tie.Need-loop-again Inv-loop μ-loop
-loop-again c = (omega arith, turn (c .before) true (not-false _ (c .if1 .left)))
+loop-again c =
+    let read = c .before in
+    let test = read .before in
+    let l = test .before in
+    let x = l .before .before .before .args in
+    let told = c .event-ok .ensures ∙ ap eventOk (read .event-at .ensures) in
+    (omega arith, events-more (formOf (x .form)) (x .events .now) (l .loop .i) (l .before .event-count .result) (l .loop .passed) (c .event-ok .result) _ (test .loop-test .taken) told (l .loop .inv .1))
 
-returns-2 : tie.Need-returns-2 Inv-loop μ-loop
-returns-2 c =
+returns : tie.Need-returns Inv-loop μ-loop
+returns c =
     let l = c .before in
     let x = l .before .before .before .args in
-    sym (events-end (formOf (x .form)) (x .events .now) (l .loop .i) (l .before .event-count .result) (c .loop-test .left)) ∙ l .loop .inv .1
+    events-last (formOf (x .form)) (x .events .now) (l .loop .i) (l .before .event-count .result) (l .loop .passed) _ (c .loop-test .left) (l .loop .inv .1)
 
 pub events-ok-spec : {M : Type 1} → statement M
 events-ok-spec =
@@ -74,8 +63,7 @@ events-ok-spec =
     loop-holds
     event-at-requires
     event-ok-requires
-    returns
     add-i
     loop-less
     loop-again
-    returns-2)
+    returns)

@@ -1,23 +1,20 @@
--- `text::write` meets its contract.
+-- `text::put_rest` meets its contract.
 use native.Mathlib.Omega.{arith}
-use mathlib.Core.List.{_++_}
+use mathlib.Core.List.{[], _++_}
 use mathlib.Core.Path.{refl, sym}
 use lib.ListN.{length-append}
 use Rattle.text.specs.Written.{text}
 use Rattle.text.proofs.Numerals.{text-length, detail-length}
 use Rattle.text.proofs.Writing.{joined}
 use borrow.Author.Needs.{needs}
-use Rattle.text.proofs.write.Statement.{statement}
-use Rattle.text.proofs.write.Tie as tie
+use Rattle.text.proofs.put_rest.Statement.{statement}
+use Rattle.text.proofs.put_rest.Tie as tie
 
 abbrev start : tie.After-put-detail → tie.Start
 start f =
     let third = f .before .before .before .before in
     let first = third .before .before .before .before .before .before .before .before in
-    first .before .before .before .before .before .before .before .before .before .before
-
-put-word-requires : tie.Need-put-word-requires
-put-word-requires c κs = search needs
+    first .before .before .before .before .before
 
 put-number-requires : tie.Need-put-number-requires
 put-number-requires c κs = search needs
@@ -42,24 +39,22 @@ same-length c = search needs
 returns : tie.Need-returns
 unfolding text
 returns c =
-    let f₆ = c .before .before in
-    let f₅ = f₆ .before .before .before .before in
+    let f₅ = c .before .before in
     let f₄ = f₅ .before .before .before .before in
     let f₃ = f₄ .before .before .before .before in
     let f₂ = f₃ .before .before .before .before in
     let f₁ = f₂ .before .before .before .before in
-    let a = start f₅ .args in
+    let a = start f₄ .args in
     let detail = a .head .now ++ a .bytes .now in
     let both = sym (length-append (a .head .now) (a .bytes .now)) in
-    let long = text-length (a .word .now) detail (a .time) (a .events) (a .notices) refl refl refl both in
-    joined (rw long (start f₅ .pre)) (f₁ .put-word .ensures) (f₂ .put-number .ensures) (f₃ .put-number2 .ensures) (f₄ .put-number3 .ensures)
-    (f₅ .put-detail .ensures) (f₆ .put-byte .ensures)
+    let long = text-length [] detail (a .time) (a .events) (a .notices) refl refl refl both in
+    joined (omega (arith, long, start f₄ .pre)) (f₁ .put-number .ensures) (f₂ .put-number2 .ensures) (f₃ .put-number3 .ensures)
+    (f₄ .put-detail .ensures) (f₅ .put-byte .ensures)
 
-pub write-spec : {M : Type 1} → statement M
-write-spec =
+pub put-rest-spec : {M : Type 1} → statement M
+put-rest-spec =
     tie.close
     (tie.spec
-    put-word-requires
     put-number-requires
     put-number-requires-2
     put-number-requires-3

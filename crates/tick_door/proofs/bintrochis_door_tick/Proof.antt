@@ -1,14 +1,14 @@
--- `step_door::bintrochis_door_tick` meets its contract.
+-- `tick_door::bintrochis_door_tick` meets its contract.
 use Prim.Native.Nat.{ℕ}
 use mathlib.Core.Path.{_≡_, subst}
 use Rattle.steps.specs.declared.Engine.{Engine}
 use Rattle.steps.specs.declared.Stepped.{Stepped}
 use Rattle.steps.specs.Stepping.{tickOf}
 use Rattle.state_numbers.specs.Kept.{AskedIn}
 use Rattle.step_door.proofs.Ways.{was-settled, asked-nothing, step-refused, step-taken}
 use borrow.Author.Needs.{needs}
-use Rattle.step_door.proofs.bintrochis_door_tick.Statement.{statement}
-use Rattle.step_door.proofs.bintrochis_door_tick.Tie as tie
+use Rattle.tick_door.proofs.bintrochis_door_tick.Statement.{statement}
+use Rattle.tick_door.proofs.bintrochis_door_tick.Tie as tie
 
 abbrev ticks : ℕ → Engine → Stepped → Type 0
 ticks t e y = y ≡ tickOf e t
