@@ -75,7 +75,7 @@ full() { ./udsexplain "$notice" >/dev/full; }
 try "udsexplain: a directory" 1 "" "Is a directory" directory
 try "udsexplain: no such file" 1 "" "No such file" missing
 try "udsexplain: full output" 1 "" "No space left on device" full
-help() { ./udsexplain --help | head -n 1; }
+help() { ./udsexplain --help | sed -n 1p; }
 try "udsexplain: --help" 0 "usage: udsexplain [FILE].." "" help
 try "udsexplain: no such option" 2 "" "there is no option -x" ./udsexplain -x
 
