@@ -52,24 +52,6 @@ try "udsbook: a week of examples" 0 "each counts once" "" whole_week
 calls() { ./udsbook summary "$week" | awk '{ print $1 }' | sort -nc; }
 try "udsbook: by call" 0 "" "" calls
 
-# README.md, "A week in one file": its commands as they stand there print what stands there.
-blocks=$(sed -n '/^### A week in one file$/,/^### Hoist/p' README.md)
-block() { awk -v n="$1" '/^    / { k += !inside; inside = 1; if (k == n) print substr($0, 5); next } { inside = 0 }' <<<"$blocks"; } # the n-th
-mkdir "$room/readme"
-ln -s "$PWD/udsbook" "$PWD/scripts" "$PWD/examples" "$room/readme"
-readme_add() { (cd "$room/readme" && bash -c "$(block 1)"); }
-readme_others() {
-    local hex
-    for hex in examples/*.hex; do
-        [ "$hex" != examples/02-wait-notice-first.hex ] || continue
-        ./udsbook add "$room/readme/week.book" <"$room/${hex##*/}.log" >"$room/readme/more" 2>/dev/null
-        mv "$room/readme/more" "$room/readme/week.book"
-    done
-    (cd "$room/readme" && bash -c "$(block 3)")
-}
-try "udsbook: README's book" 0 "" "$(block 2)" readme_add
-try "udsbook: README's summary" 0 "$(block 4)" "" readme_others
-
 # Refusals: with 22 and 23 the old book is written, with 24 and 25 nothing; the status says so.
 no_book() { ./udsbook add "$log" <"$log"; }
 bad_log() { ./udsbook add "$one" </dev/null | cmp - "$one"; }
