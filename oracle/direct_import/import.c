@@ -25,53 +25,54 @@ struct frame {
     uint8_t data[8];
 };
 
-static const char *past_spaces(const char *p, const char *end) {
-    while (p < end && *p == ' ') p++;
+/* A line ends in a byte 0, which is in no class of characters, so that nothing asks at each byte whether there is another. */
+static const char *past_spaces(const char *p) {
+    while (*p == ' ') p++;
     return p;
 }
 
 static bool is_end(const char *p, const char *end) {
-    const char *q = past_spaces(p, end);
-    return q == end || (q > p && (*q == 'R' || *q == 'T') && past_spaces(q + 1, end) == end);
+    const char *q = past_spaces(p);
+    return q == end || (q > p && (*q == 'R' || *q == 'T') && past_spaces(q + 1) == end);
 }
 
-static int digit(const char *p, const char *end) { return p < end ? digits[(uint8_t)*p] : -1; }
+static int digit(const char *p) { return digits[(uint8_t)*p]; }
+
+static const char *decimal(const char *p, uint64_t *value) {
+    for (*value = 0; *p >= '0' && *p <= '9'; p++) *value = *value * 10 + (uint64_t)(*p - '0');
+    return p;
+}
 
 /* (SECONDS.MICROSECONDS) INTERFACE IDENTIFIER#CONTENT[ DIRECTION] */
 static enum found read_line(const char *p, const char *end, struct frame *f) {
     const char *q;
-    uint64_t seconds = 0;
-    uint32_t micros = 0, id = 0;
-    if (end > p && end[-1] == '\r') end--;
-    if (past_spaces(p, end) == end) return BLANK;
+    uint64_t seconds, micros;
+    uint32_t id = 0;
+    if (past_spaces(p) == end) return BLANK;
     if (*p++ != '(') return UNREADABLE;
-    for (q = p; p < end && *p >= '0' && *p <= '9' && p - q < 11; p++) seconds = seconds * 10 + (uint64_t)(*p - '0');
-    if (p == q || p - q > 10 || p == end || *p++ != '.') return UNREADABLE;
-    for (q = p; p < end && *p >= '0' && *p <= '9' && p - q < 7; p++) micros = micros * 10 + (uint32_t)(*p - '0');
-    if (p - q != 6 || p == end || *p++ != ')') return UNREADABLE;
+    q = decimal(p, &seconds);
+    if (q == p || q - p > 10 || *q++ != '.') return UNREADABLE;
+    p = decimal(q, &micros);
+    if (p - q != 6 || *p++ != ')') return UNREADABLE;
     f->time = seconds * 1000000 + micros;
-    if ((q = past_spaces(p, end)) == p) return UNREADABLE;
-    for (p = q; p < end && *p > ' ' && *p < 127; p++) {}
+    if ((q = past_spaces(p)) == p) return UNREADABLE;
+    for (p = q; *p > ' ' && *p < 127; p++) {}
     if (p == q) return UNREADABLE;
-    if ((q = past_spaces(p, end)) == p) return UNREADABLE;
-    for (p = q; digit(p, end) >= 0 && p - q < 9; p++) id = id * 16 + (uint32_t)digit(p, end);
-    if (!((p - q == 3 && id <= 0x7ff) || (p - q == 8 && id <= 0x3fffffff)) || p == end || *p != '#') return UNREADABLE;
+    if ((q = past_spaces(p)) == p) return UNREADABLE;
+    for (p = q; digit(p) >= 0; p++) id = id * 16 + (uint32_t)digit(p);
+    if (!((p - q == 3 && id <= 0x7ff) || (p - q == 8 && id <= 0x3fffffff)) || *p != '#') return UNREADABLE;
     f->id = p - q == 3 ? id : 0x80000000 + id;
     q = ++p;
-    for (f->size = 0; f->size < 8; f->size++, p += 2) {
-        const int high = digit(p, end), low = high < 0 ? -1 : digit(p + 1, end);
-        if (low < 0) break;
-        f->data[f->size] = (uint8_t)(high * 16 + low);
-    }
-    if (digit(p, end) < 0 && is_end(p, end)) return f->id <= 0x9fffffff ? FRAME : OTHER;
+    for (f->size = 0; f->size < 8 && digit(p) >= 0 && digit(p + 1) >= 0; p += 2) f->data[f->size++] = (uint8_t)(digit(p) * 16 + digit(p + 1));
+    if (is_end(p, end)) return f->id <= 0x9fffffff ? FRAME : OTHER;
     p = q;
-    if (p < end && *p == 'R') {
+    if (*p == 'R') {
         p++;
-        if (p < end && *p >= '0' && *p <= '8') p++;
+        if (*p >= '0' && *p <= '8') p++;
         return is_end(p, end) ? OTHER : UNREADABLE;
     }
-    if (p == end || *p++ != '#') return UNREADABLE;
-    for (q = p; digit(p, end) >= 0 && p - q < 130; p++) {}
+    if (*p++ != '#') return UNREADABLE;
+    for (q = p; digit(p) >= 0; p++) {}
     return (p - q) % 2 == 1 && p - q <= 129 && is_end(p, end) ? OTHER : UNREADABLE;
 }
 
@@ -146,7 +147,9 @@ int main(int count, char **words) {
     }
     while ((n = getline(&row, &room, stdin)) > 0) {
         struct frame f;
-        const char *end = row + n - (row[n - 1] == '\n');
+        char *end = row + n - (row[n - 1] == '\n');
+        if (end > row && end[-1] == '\r') end--;
+        *end = 0;
         const enum found found = read_line(row, end, &f);
         line++;
         if (found == BLANK) continue;
