@@ -1,6 +1,6 @@
 # shellcheck shell=bash disable=SC2154
-# README.md: each block of commands that "prints" stands behind, as it stands there, all in one folder and in their order, writes to both streams what the block
-# behind that word has. (`scripts/hosts` tries the cable, and the examples in C, Rust and Python.) `scripts/shell-tests readme` runs this.
+# README.md: each block of commands that "prints" stands behind, as it stands there, all in one folder and in their order, writes to both streams what
+# the block behind that word has. (`scripts/hosts` tries the cable, and the examples in C, Rust and Python.) `scripts/shell-tests readme` runs this.
 
 folder=$room/readme
 mkdir "$folder"

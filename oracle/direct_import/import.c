@@ -1,5 +1,5 @@
-/* import REQUEST REPLY: what `log2uds REQUEST REPLY` does, as a careful engineer would write it in C: a line at a time by getline, a pointer through it, a
- * table for digits. It is what docs/PERFORMANCE.md measures the import by (`oracle/imports`); nothing else uses it. */
+/* import REQUEST REPLY: what `log2uds REQUEST REPLY` does, as a careful engineer would write it in C: a line at a time by getline, a pointer through
+ * it, a table for digits. It is what docs/PERFORMANCE.md measures the import by (`oracle/imports`); nothing else uses it. */
 #define _GNU_SOURCE
 #include <stdbool.h>
 #include <stdint.h>
