@@ -2,8 +2,8 @@
 //!
 //! A call is judged from what was heard. [`Asked::request`] writes the bytes to send into a lent buffer, and [`Asked::hear`] judges a
 //! [`Recording`] of what came back, each event with its time since sending. [`Client`] does both over a [`Transport`]: it sends, listens
-//! until the call is settled, and keeps the session. [`Asked::begin`] is for a task that cannot wait: its [`Engine`] is handed one event
-//! or the time in each cycle.
+//! until the call has settled, keeps the session, and comes back at the finishing time. [`Asked::begin`] is for a task that cannot wait:
+//! its [`Engine`] is handed one event or the time in each cycle.
 //!
 //! ```
 //! use bintrochis::{Asked, Call, Config, Recording, Session, LONGEST_REQUEST};
