@@ -1,4 +1,4 @@
-# shellcheck shell=bash disable=SC2154,SC2094
+# shellcheck shell=bash disable=SC2154,SC2094,SC2016
 # ./log2uds: what it writes, and what it says where something fails. `scripts/shell-tests log2uds` runs this.
 
 captures=examples/captures

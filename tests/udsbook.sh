@@ -156,7 +156,8 @@ filler 65508 >"$room/filler"
 try "udsbook: no room leaves the book" 3 "$as_before" "refused 22*week stays as it was" in_place "$one" add_in_place "$room/filler"
 try "udsbook: no book stays what it is" 3 "$as_before" "refused 25*week stays as it was" in_place "$log" add_in_place "$log"
 try "udsbook: no log leaves the book" 1 "$as_before" "$room/none*No such file" in_place "$one" add_in_place "$room/none"
-try "udsbook: a log that cannot be read leaves the book" 1 "$as_before" "/proc/self/mem*Input/output error" in_place "$one" add_in_place /proc/self/mem
+try "udsbook: a log that cannot be read leaves the book" 1 "$as_before" "/proc/self/mem*Input/output error" \
+    in_place "$one" add_in_place /proc/self/mem
 try "udsbook: no book to add to" 2 "" "$room/none cannot be read: No such file*$usage" ./udsbook add "$room/none" "$log"
 try "udsbook: a folder is no book" 2 "" "cannot be read: Is a directory*$usage" ./udsbook add "$shelf" "$log"
 try "udsbook: a device cannot be replaced" 2 "" "is no file*$usage" ./udsbook add /dev/null "$log"
@@ -165,7 +166,11 @@ try "udsbook: no temporary folder leaves the book" 1 "$as_before" "cannot make a
 fixed() { # a folder in which nothing can be made; root may all the same, unless it gives that up
     local status
     chmod 555 "$shelf"
-    if [ "$(id -u)" -eq 0 ]; then setpriv --bounding-set=-dac_override,-dac_read_search ./udsbook add "$shelf/week" "$log"; else add_in_place "$log"; fi
+    if [ "$(id -u)" -eq 0 ]; then
+        setpriv --bounding-set=-dac_override,-dac_read_search ./udsbook add "$shelf/week" "$log"
+    else
+        add_in_place "$log"
+    fi
     status=$?
     chmod 755 "$shelf"
     return "$status"

@@ -67,11 +67,13 @@ third() { (cat "$room/two.logs" && head -c 5 "$room/two.logs") | ./udslogs; }
 damaged=3 # a program that says nothing on standard error tells of no damage
 grep -q STDERR_FILENO crates/udslogs/src/main.rt || damaged=0
 told() { if [ "$damaged" -eq 3 ]; then echo "$1"; fi; }
-try "udslogs: a half log is not completed with the next file's bytes" "$damaged" "$badlog"$'\n'"$line" "$(told "mon.logs: log 1: the file ends inside it")" monday
+try "udslogs: a half log is not completed with the next file's bytes" "$damaged" "$badlog"$'\n'"$line" \
+    "$(told "mon.logs: log 1: the file ends inside it")" monday
 try "udslogs: a file that ends inside a log" "$damaged" "$badlog" "$(told "standard input: log 1: the file ends inside it")" cut 67
 try "udslogs: a file that ends inside a length" "$damaged" "$badlog" "$(told "standard input: log 1: the file ends inside it")" cut 3
 try "udslogs: a length without its log" "$damaged" "$badlog" "$(told "standard input: log 1: the file ends inside it")" cut 4
-try "udslogs: a file that ends inside its third log" "$damaged" "$line"$'\n'"$line"$'\n'"$badlog" "$(told "standard input: log 3: the file ends inside it")" third
+try "udslogs: a file that ends inside its third log" "$damaged" "$line"$'\n'"$line"$'\n'"$badlog" \
+    "$(told "standard input: log 3: the file ends inside it")" third
 try "udslogs: logs that are too long are passed over" "$damaged" "$line"$'\n'"$badlog"$'\n'"$line"$'\n'"$badlog"$'\n'"$line" \
     "$(told "log 2: 65536 bytes*log 4: 200000 bytes cannot be a log's length")" too_long
 try "udslogs: the longest log" 0 "refused 0 0 0 08"$'\n'"$line"$'\n'"refused 0 0 0 08" "" longest
