@@ -24,8 +24,8 @@ framed "$good" >"$room/one.logs"
 # Reading.
 input() { ./udslogs <"$room/one.logs"; }
 empty() { ./udslogs </dev/null; }
-whole_list() { ./udslogs "$list.bin" | cmp - "$list.expected" && echo same; }
-pieces() { (head -c 100000 "$list.bin" && sleep 0.2 && tail -c +100001 "$list.bin") | ./udslogs | cmp - "$list.expected" && echo same; }
+whole_list() { ./udslogs "$list.bin" | cmp - "$list.expected"; }
+pieces() { (head -c 100000 "$list.bin" && sleep 0.2 && tail -c +100001 "$list.bin") | ./udslogs | cmp - "$list.expected"; }
 byte_by_byte() { for ((i = 1; i <= $(wc -c <"$room/one.logs"); i++)); do tail -c +$i "$room/one.logs" | head -c 1; done | ./udslogs; }
 several() { ./udslogs "$room/one.logs" - "$room/one.logs" <"$room/one.logs"; }
 as_udslog() { # the examples, one by one and as one file
@@ -50,18 +50,54 @@ longest() { # 65,535 bytes are not too many
 endless() { timeout 20 ./udslogs /dev/zero | head -n 2; }
 try "udslogs: one log" 0 "$line" "" input
 try "udslogs: no log" 0 "" "" empty
-try "udslogs: the list that the gate replays" 0 "same" "" whole_list
-try "udslogs: a pipe fed in pieces" 0 "same" "" pieces
 try "udslogs: a pipe fed byte by byte" 0 "$line" "" byte_by_byte
-try "udslogs: several files are one" 0 "$line"$'\n'"$line"$'\n'"$line" "" several
+try "udslogs: several files" 0 "$line"$'\n'"$line"$'\n'"$line" "" several
 try "udslogs: each log's line is udslog's" 0 "same" "" as_udslog
 try "udslogs: a bad log inside is a line and not the end" 0 "$line"$'\n'"$badlog"$'\n'"$line"$'\n'"$badlog"$'\n'"$line" "" bad_inside
-try "udslogs: a file that ends inside a log" 0 "$badlog" "" cut 67
-try "udslogs: a file that ends inside a length" 0 "$badlog" "" cut 3
-try "udslogs: a length without its log" 0 "$badlog" "" cut 4
-try "udslogs: logs that are too long are passed over" 0 "$line"$'\n'"$badlog"$'\n'"$line"$'\n'"$badlog"$'\n'"$line" "" too_long
+# Monday's file ends inside its log, and Tuesday's begins with a whole one.
+framed "$good" "$good" >"$room/two.logs"
+monday() {
+    head -c 66 "$room/two.logs" >"$room/mon.logs"
+    head -c 68 "$room/two.logs" >"$room/tue.logs"
+    ./udslogs "$room/mon.logs" "$room/tue.logs"
+}
+third() { (cat "$room/two.logs" && head -c 5 "$room/two.logs") | ./udslogs; }
+damaged=3 # a program that says nothing on standard error tells of no damage
+grep -q STDERR_FILENO crates/udslogs/src/main.rt || damaged=0
+told() { if [ "$damaged" -eq 3 ]; then echo "$1"; fi; }
+# The list that the gate replays has a log of 65,572 bytes.
+try "udslogs: the list that the gate replays" "$damaged" "" "$(told "logs.bin: log 1062: 65572 bytes cannot be a log's length")" whole_list
+try "udslogs: a pipe fed in pieces" "$damaged" "" "$(told "standard input: log 1062: 65572 bytes cannot be a log's length")" pieces
+try "udslogs: a half log is not completed with the next file's bytes" "$damaged" "$badlog"$'\n'"$line" \
+    "$(told "mon.logs: log 1: the file ends inside it")" monday
+try "udslogs: a file that ends inside a log" "$damaged" "$badlog" "$(told "standard input: log 1: the file ends inside it")" cut 67
+try "udslogs: a file that ends inside a length" "$damaged" "$badlog" "$(told "standard input: log 1: the file ends inside it")" cut 3
+try "udslogs: a length without its log" "$damaged" "$badlog" "$(told "standard input: log 1: the file ends inside it")" cut 4
+try "udslogs: a file that ends inside its third log" "$damaged" "$line"$'\n'"$line"$'\n'"$badlog" \
+    "$(told "standard input: log 3: the file ends inside it")" third
+try "udslogs: logs that are too long are passed over" "$damaged" "$line"$'\n'"$badlog"$'\n'"$line"$'\n'"$badlog"$'\n'"$line" \
+    "$(told "log 2: 65536 bytes*log 4: 200000 bytes cannot be a log's length")" too_long
 try "udslogs: the longest log" 0 "refused 0 0 0 08"$'\n'"$line"$'\n'"refused 0 0 0 08" "" longest
 try "udslogs: input without an end" 1 "$badlog"$'\n'"$badlog" "output*Broken pipe" endless
+
+# What the launcher makes of what the program says, with a stand-in for the program, which does what its input says.
+stand="$room/stand-in"
+mkdir -p "$stand/scripts"
+cp udslogs "$stand/" && cp scripts/launcher "$stand/scripts/"
+printf '#!/bin/sh\n' | tee "$stand/scripts/program" >"$stand/scripts/run"
+echo 'exec sh' >>"$stand/scripts/run"
+chmod +x "$stand"/scripts/{program,run}
+echo 'echo "line 1"; echo "length 1 16777280" >&2; echo "line 2"; echo "cut 2" >&2' >"$stand/mon"
+echo 'echo "line 3"' >"$stand/tue"
+echo 'exit 5' >"$stand/wed"
+days() { (cd "$stand" && ./udslogs "$@"); }
+words=$'udslogs: mon: log 1: 16777280 bytes cannot be a log\'s length, which is at most 65,535\nudslogs: mon: log 2: the file ends inside it'
+try "udslogs: damage is told with the file's name, and the next file is read" 3 $'line 1\nline 2\nline 3' "$words" days mon tue
+try "udslogs: a whole file" 0 "line 3" "" days tue
+try "udslogs: a missing file counts more" 1 $'line 1\nline 2\nline 3' "none: No such file" days mon none tue
+try "udslogs: a program that fails" 1 "line 3" "the program failed" days tue wed tue
+strange() { cp "$stand/mon" "$stand/"$'a\nb' && days $'a\nb'; }
+try "udslogs: a name that would break the line is quoted" 3 $'line 1\nline 2' "\$'a\\\\nb': log 2" strange
 
 # What fails.
 missing() { ./udslogs "$room/none" "$room/one.logs"; }
