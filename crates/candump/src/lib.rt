@@ -4,6 +4,7 @@ ghost use mathlib.Core.Path.{_≡_};
 ghost use Prim.Native.Nat.{_+_, _-_, _*_, _%_, _≤_, _<_};
 ghost use lib.Dec.{eqb};
 ghost use Rattle.candump.specs.declared.Found.the-variants.{Other, Unreadable};
+ghost use Rattle.candump.specs.declared.Phase.the-variants.{Bad};
 ghost use Rattle.candump.specs.Text.{between, Hex, is, worth};
 ghost use Rattle.candump.specs.Lines.{isIdentifier};
 ghost use Rattle.candump.specs.Reading.{begun, more, microseconds, canId, classicFound, after, stored, next, ended};
@@ -294,6 +295,19 @@ pub fn begin() -> Reader
     }
 }
 
+// Behind a CR nothing may follow.
+fn stepped(returned: bool, phase: Phase, c: u8) -> Phase
+    ensures { λ r. ⌜ r ≡ cond returned Bad (cond (eqb c 13) phase (after phase c)) ⌝ }
+{
+    if returned {
+        return Phase::Bad;
+    }
+    if c == 13 {
+        return phase;
+    }
+    after(phase, c)
+}
+
 // One byte more of the line, which has no LF.
 pub fn next(reader: Reader, c: u8) -> Reader
     ensures { λ r. ⌜ r ≡ next reader c ⌝ }
@@ -301,11 +315,7 @@ pub fn next(reader: Reader, c: u8) -> Reader
     let phase = reader.phase;
     let bytes = reader.bytes;
     Reader {
-        phase: pick(
-            reader.returned,
-            Phase::Bad,
-            pick(c == 13, phase, after(phase, c)),
-        ),
+        phase: stepped(reader.returned, phase, c),
         returned: c == 13,
         bytes: stored(phase, bytes, c),
     }
