@@ -20,7 +20,7 @@ ghost use Rattle.isotp.specs.Held.{givenOf};
 ghost use Rattle.candump.specs.Reading.{lineOf};
 ghost use Rattle.importing.specs.Import.{next};
 ghost use Rattle.importing.specs.Kept.{noteDrop, noteRequest, noteReply, noteGiven, fitsIn, logReply, logGiven, framed, step, readLine, bytes, ended};
-ghost use Rattle.imports.specs.Held.{startOf, tallyOf, logIn, logOf, keptOf, goingOf, streamOf, Begins, Tallied, Finished};
+ghost use Rattle.imports.specs.Held.{startOf, tallyOf, logIn, logOf, keptOf, goingOf, streamOf, settledIn, Begins, Tallied, Finished};
 
 // Of the lines at which a message was given up, so many are kept.
 const MOST_DROPS: u64 = 4096;
@@ -498,6 +498,18 @@ pub fn read_on(
         reader: reader,
         import: import,
     }
+}
+
+// Whether nothing that follows changes what comes of the text (`importing/proofs/Settles.settles`). Refusals 15 and 17 are never due before its end.
+pub fn settled(s: Stream) -> bool
+    ensures { λ r. ⌜ r ≡ settledIn s ⌝ }
+{
+    let reader = s.reader;
+    let lines = s.import;
+    if lines.refused != 0 {
+        return true;
+    }
+    candump::hopeless(reader)
 }
 
 // Of so many lines at which a message was given up, those that are not kept.
