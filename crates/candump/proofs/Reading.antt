@@ -13,7 +13,8 @@ use borrow.Author.Tests.{eq-eqb, ne-eqb, eqb-true, eqb-false, le-leb, lt-leb, lt
 use Rattle.candump.specs.Text.{between, Class, Space, Digit, Hex, Printable, is, run, past, worth, number, pairs}
 use Rattle.candump.specs.Lines.{Line, blank, unreadable, other, frame, front, rest, none, some, isDirection, ends, isData, isRemote, isFd, classic, content}
 use Rattle.candump.specs.Lines.{isIdentifier, identifier, identified, unnamed, named, timed, micros, seconds, opened, bare, whole, read}
-use Rattle.candump.specs.Reading.{more, microseconds, canId, classicFound, after, stored, next, ended, begun, lineOf, readOn, hopeless, Reads, Hopeless}
+use Rattle.candump.specs.Reading.{more, microseconds, canId, classicFound, after, stored, next, ended, begun, lineOf, readOn, hopeless, Reads}
+use Rattle.candump.specs.Reading.{Hopeless}
 use Rattle.candump.specs.declared.Found.{Found}
 use Rattle.candump.specs.declared.Found.the-variants.{Blank, Unreadable, Other, Frame}
 use Rattle.candump.specs.declared.Phase.{Phase}

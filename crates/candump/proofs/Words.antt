@@ -66,7 +66,8 @@ too-long word h =
     rw (ne-eqb (length word) 3 (omega arith), ne-eqb (length word) 8 (omega arith), and-false (every (is Hex) word))
 
 -- What was read of the whole word.
-module _ {word : List ℕ} {i v : ℕ} {digits n t : Bool} (p : Digits word i digits v) (done : length word ≤ i) (en : n ≡ names (length word) v) (et : t ≡ (digits && n)) where
+module _ {word : List ℕ} {i v : ℕ} {digits n t : Bool} (p : Digits word i digits v) (done : length word ≤ i) (en : n ≡ names (length word) v)
+    (et : t ≡ (digits && n)) where
   says : (every (is Hex) word && names (length word) (number 16 0 word)) ≡ t
   says =
       let whole = take-all i word done in

@@ -12,12 +12,14 @@ use Rattle.candump.specs.declared.Reader.{Reader}
 use Rattle.candump.proofs.Reading.{is-bad, bad-stays}
 use Rattle.importing.specs.Import as import
 use Rattle.importing.specs.Import.{Imported, next, imported}
-use Rattle.importing.specs.Kept.{Kept, Going, going, refusedAt, refusedIn, step, Stream, stream, byte, bytes, Written, refusedLine, refused, lines, settled, ended, start}
+use Rattle.importing.specs.Kept.{Kept, Going, going, refusedAt, refusedIn, step, Stream, stream, byte, bytes, Written, refusedLine, refused}
+use Rattle.importing.specs.Kept.{lines, settled, ended, start}
 use Rattle.importing.specs.Promises.{written, Settles}
 use Rattle.importing.proofs.Imports.{imports}
 
 -- A text in two pieces.
-pub bytes-behind : (room ask answer : ℕ) (s : Stream) (a b : List ℕ) → bytes room ask answer (bytes room ask answer s a) b ≡ bytes room ask answer s (a ++ b)
+pub bytes-behind : (room ask answer : ℕ) (s : Stream) (a b : List ℕ) →
+    bytes room ask answer (bytes room ask answer s a) b ≡ bytes room ask answer s (a ++ b)
 unfolding bytes
 bytes-behind room ask answer s [] b = refl
 bytes-behind room ask answer s (c ∷ a) b = bytes-behind room ask answer (byte room ask answer s c) a b
@@ -29,19 +31,22 @@ module _ (room ask answer : ℕ) where
   either-way false a b t p q = q
 
   -- Behind a line that was refused.
-  stays-refused : (r : Reader) (n at : ℕ) (t : List ℕ) → ended room ask answer (bytes room ask answer (stream r (refusedAt n at)) t) ≡ refusedLine n at
+  stays-refused : (r : Reader) (n at : ℕ) (t : List ℕ) →
+      ended room ask answer (bytes room ask answer (stream r (refusedAt n at)) t) ≡ refusedLine n at
   unfolding bytes byte ended step
   stays-refused r n at [] = refl
   stays-refused r n at (c ∷ t) = either-way (eqb c 10) _ _ t (stays-refused reading.begun n at t) (stays-refused (reading.next r c) n at t)
 
   -- Within a line that can't be read.
-  stays-bad : (r : Reader) (k : Kept) (t : List ℕ) → r .phase ≡ Bad → ended room ask answer (bytes room ask answer (stream r (going k)) t) ≡ refusedLine 14 (next (k .line))
+  stays-bad : (r : Reader) (k : Kept) (t : List ℕ) → r .phase ≡ Bad →
+      ended room ask answer (bytes room ask answer (stream r (going k)) t) ≡ refusedLine 14 (next (k .line))
   unfolding bytes byte ended step reading.ended reading.readOn
   stays-bad r k [] e = rw e
   stays-bad r k (c ∷ t) e =
       let now : step room ask answer (going k) (reading.lineOf (reading.ended (r .phase)) (r .bytes)) ≡ refusedAt 14 (next (k .line)) = rw e in
       either-way (eqb c 10) _ _ t
-      (ap (λ (g : Going). ended room ask answer (bytes room ask answer (stream reading.begun g) t)) now ∙ stays-refused reading.begun 14 (next (k .line)) t)
+      (ap (λ (g : Going). ended room ask answer (bytes room ask answer (stream reading.begun g) t)) now
+      ∙ stays-refused reading.begun 14 (next (k .line)) t)
       (stays-bad (reading.next r c) k t (bad-stays r (c ∷ []) e))
 
   -- Whatever follows, a line is refused.

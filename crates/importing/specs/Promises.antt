@@ -13,7 +13,8 @@ use Rattle.rules.specs.Writing.{putEntries}
 use Rattle.text.specs.Written.{item}
 use Rattle.importing.specs.Import as import
 use Rattle.importing.specs.Import.{Item, request, reply, dropped, next, Imported, within, imported}
-use Rattle.importing.specs.Kept.{Tally, tally, append, noteDrop, noteReply, entry, log, Written, refusedLine, refused, lines, start, bytes, settled, ended}
+use Rattle.importing.specs.Kept.{Tally, tally, append, noteDrop, noteReply, entry, log, Written, refusedLine, refused, lines, start, bytes}
+use Rattle.importing.specs.Kept.{settled, ended}
 
 -- What is told is kept item by item.
 abbrev pub tell : ℕ → Tally → Item → Tally

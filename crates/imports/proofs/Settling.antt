@@ -12,6 +12,7 @@ settled-held s asked answered out log = go (eqb (s .import .«refused») 0)
   where
     go : (b : Bool) →
         (not b || hopeless (s .reader .phase)) ≡
-        (refusedIn (cond b (going (keptOf (s .import) asked answered out log)) (refusedAt (s .import .«refused») (s .import .line))) || hopeless (s .reader .phase))
+        (refusedIn (cond b (going (keptOf (s .import) asked answered out log)) (refusedAt (s .import .«refused») (s .import .line)))
+        || hopeless (s .reader .phase))
     go true = refl
     go false = refl

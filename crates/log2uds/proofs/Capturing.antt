@@ -27,7 +27,8 @@ module _ (call : List ℕ) (o : Outcome) (before after out whole log : List ℕ)
     h ∙ ap (λ (x : Outcome). shown (writtenOf x before [])) e ∙ ap (λ (x : Outcome). logSaid call (writtenOf x out log)) (sym e),
   )
 
-  pub line-said : {n line : ℕ} → o ≡ RefusedAt n line → ([] ≡ logShown call (writtenOf o out log)) × (take m after ≡ logSaid call (writtenOf o out log))
+  pub line-said : {n line : ℕ} → o ≡ RefusedAt n line →
+      ([] ≡ logShown call (writtenOf o out log)) × (take m after ≡ logSaid call (writtenOf o out log))
   line-said e = (
     ap (λ (x : Outcome). logShown call (writtenOf x out log)) (sym e),
     h ∙ ap (λ (x : Outcome). shown (writtenOf x before [])) e ∙ ap (λ (x : Outcome). logSaid call (writtenOf x out log)) (sym e),
@@ -81,11 +82,12 @@ module _ (call : List ℕ) (es : List Entry) (rs before after text : List ℕ) {
       go Defined.noCall ec s = record { shows = rw ec; says = rw ec }
 
 -- The lines, the events and the replies are those of the outcome.
-pub of-lines : (call out log : List ℕ) {o : Outcome} {t : Told} {ls es rs x y : List ℕ} → o ≡ Lines t → ls ≡ take (t .lines) out → es ≡ take (t .events) log →
-    rs ≡ take (t .replies) (drop 5120 log) → x ≡ output (capture call (entries plain es) rs) →
+pub of-lines : (call out log : List ℕ) {o : Outcome} {t : Told} {ls es rs x y : List ℕ} → o ≡ Lines t → ls ≡ take (t .lines) out →
+    es ≡ take (t .events) log → rs ≡ take (t .replies) (drop 5120 log) → x ≡ output (capture call (entries plain es) rs) →
     y ≡ errors (noted ls ++ reported (t .«left_out»)) (capture call (entries plain es) rs) →
     (x ≡ logShown call (writtenOf o out log)) × (y ≡ logSaid call (writtenOf o out log))
 of-lines call out log {t = t} e l a b p q = (
   p ∙ ap₂ (λ (s u : List ℕ). output (capture call (entries plain s) u)) a b ∙ ap (λ (x : Outcome). logShown call (writtenOf x out log)) (sym e),
-  q ∙ (λ i. errors (noted (l i) ++ reported (t .«left_out»)) (capture call (entries plain (a i)) (b i))) ∙ ap (λ (x : Outcome). logSaid call (writtenOf x out log)) (sym e),
+  q ∙ (λ i. errors (noted (l i) ++ reported (t .«left_out»)) (capture call (entries plain (a i)) (b i)))
+      ∙ ap (λ (x : Outcome). logSaid call (writtenOf x out log)) (sym e),
 )

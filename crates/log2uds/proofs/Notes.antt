@@ -107,7 +107,8 @@ pub not-kept : (out : List ℕ) (at c : ℕ) (keep : Bool) → not keep ≡ true
 not-kept out at c true e = let z : _≡_ {A = ℕ} 0 1 = ap (λ (b : Bool). cond b 1 0) e in absurd (omega arith)
 not-kept out at c false e = sym (append-nil (take at out))
 
-pub is-kept : (out : List ℕ) (at c : ℕ) (keep : Bool) → at < length out → not keep ≡ false → take (at + 1) (set out at c) ≡ take at out ++ cond keep (c ∷ []) []
+pub is-kept : (out : List ℕ) (at c : ℕ) (keep : Bool) → at < length out → not keep ≡ false →
+    take (at + 1) (set out at c) ≡ take at out ++ cond keep (c ∷ []) []
 is-kept out at c true h e = rw add-one (take-suc-set out at c h)
 is-kept out at c false h e = let z : _≡_ {A = ℕ} 0 1 = ap (λ (b : Bool). cond b 0 1) e in absurd (omega arith)
 

@@ -74,8 +74,9 @@ same-left (RefusedAt n line) out log = refl
 same-left (Lines t) out log = refl
 
 -- `log2uds REQUEST REPLY`
-pub lines-written : (ask answer : ℕ) (t : Bool) {r : Outcome} {room n m left : ℕ} {before out log said : List ℕ} → room ≡ 272410 → Ends room ask answer t r before log →
-    take n out ≡ shown (writtenOf r before []) → left ≡ leftIn (writtenOf r [] []) → take m said ≡ reported left → Runs.Lines ask answer t n out m said
+pub lines-written : (ask answer : ℕ) (t : Bool) {r : Outcome} {room n m left : ℕ} {before out log said : List ℕ} → room ≡ 272410 →
+    Ends room ask answer t r before log → take n out ≡ shown (writtenOf r before []) → left ≡ leftIn (writtenOf r [] []) → take m said ≡ reported left →
+    Runs.Lines ask answer t n out m said
 lines-written ask answer t {r = r} {room = room} {before = before} {log = log} er e o el s =
     let all = e .finished .says ∙ suffices room ask answer (e .text) (omega (arith, er)) in
     record {
@@ -98,10 +99,12 @@ log-errors : (call : List ℕ) (x : Imported) → logSaid call (inFull x) ≡ lo
 log-errors call (import.refusedLine n line) = refl
 log-errors call (import.refused n) = refl
 log-errors call (import.told is) =
-    ap₂ (λ (l : List ℕ) (es : List Entry). errors (l ++ reported (givenUpFrom 0 is - 4096)) (capture call es (repliesOf is))) (noted-lines 0 is) (read-back is)
+    ap₂ (λ (l : List ℕ) (es : List Entry). errors (l ++ reported (givenUpFrom 0 is - 4096)) (capture call es (repliesOf is))) (noted-lines 0 is)
+    (read-back is)
 
 -- `log2uds REQUEST REPLY CALL`
-pub log-written : (ask answer : ℕ) (call : List ℕ) (t : Bool) {r : Outcome} {room n m : ℕ} {out log whole said : List ℕ} → room ≡ 272410 → Ends room ask answer t r out log →
+pub log-written : (ask answer : ℕ) (call : List ℕ) (t : Bool) {r : Outcome} {room n m : ℕ} {out log whole said : List ℕ} → room ≡ 272410 →
+    Ends room ask answer t r out log →
     take n whole ≡ logShown call (writtenOf r out log) → take m said ≡ logSaid call (writtenOf r out log) → Runs.Log ask answer call t n whole m said
 log-written ask answer call t {room = room} er e o s =
     let all = e .finished .says ∙ suffices room ask answer (e .text) (omega (arith, er)) in

@@ -35,7 +35,8 @@ module _ (out : List ℕ) (room : 60 ≤ length out) where
       front out after (counted (ascii "refused") n ++ item [] line []) s (then (omega arith) first second)
 
 -- Behind what stands there.
-pub told-behind : (out word : List ℕ) (at n r : ℕ) (after : List ℕ) → at + 60 ≤ length out → length word ≤ 38 → n < 2 ^ 64 → Appended (item word n []) out at r after →
+pub told-behind : (out word : List ℕ) (at n r : ℕ) (after : List ℕ) → at + 60 ≤ length out → length word ≤ 38 → n < 2 ^ 64 →
+    Appended (item word n []) out at r after →
     take r after ≡ take at out ++ item word n []
 unfolding put
 told-behind out word at n r after room short small p =

@@ -1,5 +1,5 @@
-// log2uds REQUEST REPLY [CALL]: the text of `candump -L` on standard input; on standard output the request and its replies as lines, or, with CALL, a log
-// without events, the log of that call with the events of the text, and the other lines on standard error. A read or a write that fails is the
+// log2uds REQUEST REPLY [CALL]: the text of `candump -L` on standard input; on standard output the request and its replies as lines, or, with CALL, a
+// log without events, the log of that call with the events of the text, and the other lines on standard error. A read or a write that fails is the
 // launcher's, `log2uds`.
 use candump::Named;
 use captured::Captured;
@@ -245,8 +245,8 @@ struct Whole {
     ended: bool,
 }
 
-// The whole text, or so much of it that nothing behind it changes what comes of it. A proved loop has to end, and nothing says that the input does: so
-// it counts its turns down, from a number that no run uses up.
+// The whole text, or so much of it that nothing behind it changes what comes of it. A proved loop has to end, and nothing says that the input does:
+// so it counts its turns down, from a number that no run uses up.
 fn import(
     ask: u64,
     answer: u64,

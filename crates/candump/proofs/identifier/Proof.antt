@@ -42,7 +42,8 @@ loop-again c =
     let at-both = c .before in
     let at-is-hex = at-both .before in
     let test = at-is-hex .before .before in
-    one-read (test .before .before .if1 .left) (test .loop-test .taken) (test .before .loop .inv) (at-is-hex .is-hex .ensures) (at-both .both .ensures)
+    one-read (test .before .before .if1 .left) (test .loop-test .taken) (test .before .loop .inv) (at-is-hex .is-hex .ensures)
+    (at-both .both .ensures)
     (c .hexadecimal .ensures)
 
 names-requires : tie.Need-names-requires Inv-loop μ-loop

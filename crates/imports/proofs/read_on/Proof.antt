@@ -21,13 +21,15 @@ abbrev Inv-loop : tie.InvT-loop
 Inv-loop chunk ask answer asked₀ answered₀ out₀ log₀ reader₀ import₀ i₀ asked answered out log reader import i =
     (i ≤ length chunk) ×
     ((streamOf (record { reader = reader; import = import }) asked answered out log ≡
-    bytes (length out₀) ask answer (streamOf (record { reader = reader₀; import = import₀ }) asked₀ answered₀ out₀ log₀) (take i chunk)) × (length out ≡ length out₀))
+    bytes (length out₀) ask answer (streamOf (record { reader = reader₀; import = import₀ }) asked₀ answered₀ out₀ log₀)
+    (take i chunk)) × (length out ≡ length out₀))
 
 abbrev μ-loop : tie.MeasureT-loop
 μ-loop chunk ask answer asked₀ answered₀ out₀ log₀ reader₀ import₀ i₀ asked answered out log reader import i = length chunk - i
 
 -- An LF ends the line; another byte is the line's.
-at-lf : (room ask answer c : ℕ) (s : Stream) → eqb c 10 ≡ true → stream begun (step room ask answer (s .kept) (readLine (s .reader))) ≡ byte room ask answer s c
+at-lf : (room ask answer c : ℕ) (s : Stream) → eqb c 10 ≡ true →
+    stream begun (step room ask answer (s .kept) (readLine (s .reader))) ≡ byte room ask answer s c
 unfolding byte
 at-lf room ask answer c s e = rw e
 
@@ -67,7 +69,8 @@ loop-again c =
     let chunk = start .args .chunk .now in
     let ch = getD chunk (at-loop .loop .i) 0 in
     let room = length (start .args .out .now) in
-    let held = streamOf (record { reader = at-loop .loop .reader; import = at-loop .loop .import }) (at-loop .loop .asked) (at-loop .loop .answered) (at-loop .loop .out) (at-loop .loop .log) in
+    let held = streamOf (record { reader = at-loop .loop .reader; import = at-loop .loop .import }) (at-loop .loop .asked) (at-loop .loop .answered)
+    (at-loop .loop .out) (at-loop .loop .log) in
     let begun₀ = streamOf (start .args .s) (start .args .asked .now) (start .args .answered .now) (start .args .out .now) (start .args .log .now) in
     let on : byte (length (at-loop .loop .out)) (start .args .ask) (start .args .answer) held ch ≡
     bytes room (start .args .ask) (start .args .answer) begun₀ (take (at-loop .loop .i + 1) chunk) =
@@ -78,7 +81,8 @@ loop-again c =
       (
         ⊎-elim
             (λ w. rw (w .9, w .10, w .11, w .12, w .13, w .14, (w .8 .ensures))
-            (ap (stream begun) (w .5 .ensures) ∙ at-lf (length (at-loop .loop .out)) (start .args .ask) (start .args .answer) ch held (eq-eqb ch 10 (w .0 .taken)) ∙ on))
+            (ap (stream begun) (w .5 .ensures) ∙ at-lf (length (at-loop .loop .out)) (start .args .ask) (start .args .answer) ch held
+            (eq-eqb ch 10 (w .0 .taken)) ∙ on))
             (λ w. rw (w .2, w .3, w .4, w .5, w .6, w .7, (w .1 .ensures))
             (at-other (length (at-loop .loop .out)) (start .args .ask) (start .args .answer) ch held (ne-eqb ch 10 (w .0 .left)) ∙ on))
             (c .if1 .came),

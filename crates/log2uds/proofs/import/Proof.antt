@@ -44,7 +44,8 @@ loop-less : tie.Need-loop-less Inv-loop μ-loop
 loop-less c =
     let read = c .before .before .before .before .before in
     let test = read .before .before .before .before .before in
-    fewer (read .read-more .result .ended) (c .before .settled .result) (test .before .loop .turns) (test .loop-test .taken) (c .turns-left .ensures .0)
+    fewer (read .read-more .result .ended) (c .before .settled .result) (test .before .loop .turns) (test .loop-test .taken)
+    (c .turns-left .ensures .0)
 
 loop-again : tie.Need-loop-again Inv-loop μ-loop
 loop-again c =

@@ -29,7 +29,8 @@ returns c =
     let put = left .before .before .before in
     let done = put .before .before .before .before in
     let s = done .before .before .before .before .before .before .before in
-    lines-written (s .args .ask) (s .args .answer) (done .import .result .ended) (s .pre .0) (done .import .ensures) (put .put-outcome .ensures) (left .left-out .ensures)
+    lines-written (s .args .ask) (s .args .answer) (done .import .result .ended) (s .pre .0) (done .import .ensures) (put .put-outcome .ensures)
+    (left .left-out .ensures)
     (reported .put-left-out .ensures)
 
 pub import-lines-spec : {M : Type 1} → statement M

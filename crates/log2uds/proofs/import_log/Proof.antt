@@ -21,7 +21,8 @@ returns c =
     let put = c .before .before in
     let done = put .before .before .before .before .before .before .before .before in
     let s = done .before .before .before .before .before .before .before .before in
-    log-written (s .args .ask) (s .args .answer) (s .args .call .now) (done .import .result .ended) (s .pre .0) (done .import .ensures) (put .put-capture .ensures .0)
+    log-written (s .args .ask) (s .args .answer) (s .args .call .now) (done .import .result .ended) (s .pre .0) (done .import .ensures)
+    (put .put-capture .ensures .0)
     (put .put-capture .ensures .1)
 
 pub import-log-spec : {M : Type 1} → statement M

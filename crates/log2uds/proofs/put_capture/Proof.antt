@@ -71,7 +71,8 @@ returns c =
     let put = c .before .before in
     let named = put .before .before in
     let x = named .before .before .before .before .before .before .args in
-    refused-said (x .call .now) (x .outcome) (x .said .now) (put .put-outcome .last .1 .0) (x .out .now) (x .whole .now) (x .log .now) (put .put-outcome .result)
+    refused-said (x .call .now) (x .outcome) (x .said .now) (put .put-outcome .last .1 .0) (x .out .now) (x .whole .now) (x .log .now)
+    (put .put-outcome .result)
     (put .put-outcome .ensures) (named .enum-told .given .1)
 
 same-length-2 : tie.Need-same-length-2
@@ -82,7 +83,8 @@ returns-2 c =
     let put = c .before .before in
     let named = put .before .before in
     let x = named .before .before .before .before .before .before .args in
-    line-said (x .call .now) (x .outcome) (x .said .now) (put .put-outcome2 .last .1 .0) (x .out .now) (x .whole .now) (x .log .now) (put .put-outcome2 .result)
+    line-said (x .call .now) (x .outcome) (x .said .now) (put .put-outcome2 .last .1 .0) (x .out .now) (x .whole .now) (x .log .now)
+    (put .put-outcome2 .result)
     (put .put-outcome2 .ensures) (named .enum-told2 .given .1)
 
 same-length-3 : tie.Need-same-length-3
@@ -100,8 +102,10 @@ returns-3 c =
     let s = named .before .before .before .before .before .before in
     let x = s .args in
     let text = noted (at-lines .part .result .now) ++ reported (named .outcome .given .0 .0 .«left_out») in
-    let ends = log-there (x .call .now) (entries plain (events .part2 .result .now)) (replies .part3 .result .now) (x .whole .now) _ text (done .capture .ensures) (at-n .n .given .1) in
-    of-lines (x .call .now) (x .out .now) (x .log .now) (named .outcome .given .1) (at-lines .part .ensures) (events .part2 .ensures) (replies .part3 .ensures) (ends .shows)
+    let ends = log-there (x .call .now) (entries plain (events .part2 .result .now)) (replies .part3 .result .now) (x .whole .now) _ text
+    (done .capture .ensures) (at-n .n .given .1) in
+    of-lines (x .call .now) (x .out .now) (x .log .now) (named .outcome .given .1) (at-lines .part .ensures) (events .part2 .ensures)
+    (replies .part3 .ensures) (ends .shows)
     ((put .put-said .ensures) ∙ ends .says)
 
 same-length-4 : tie.Need-same-length-4
@@ -120,9 +124,12 @@ returns-4 c =
     let x = s .args in
     let text = noted (at-lines .part .result .now) ++ reported (named .outcome .given .0 .0 .«left_out») in
     let ends =
-    none-there (x .call .now) (entries plain (events .part2 .result .now)) (replies .part3 .result .now) (x .whole .now) _ text (done .capture .ensures) (told3 .enum-told3 .given .1)
-    (told (x .said .now) (omega (arith, s .pre)) (ascii "refused") 17 (put .put-item .result) _ (omega arith) (omega arith) (put .put-item .ensures)) in
-    of-lines (x .call .now) (x .out .now) (x .log .now) (named .outcome .given .1) (at-lines .part .ensures) (events .part2 .ensures) (replies .part3 .ensures) (ends .shows)
+    none-there (x .call .now) (entries plain (events .part2 .result .now)) (replies .part3 .result .now) (x .whole .now) _ text
+    (done .capture .ensures) (told3 .enum-told3 .given .1)
+    (told (x .said .now) (omega (arith, s .pre)) (ascii "refused") 17 (put .put-item .result) _ (omega arith) (omega arith)
+    (put .put-item .ensures)) in
+    of-lines (x .call .now) (x .out .now) (x .log .now) (named .outcome .given .1) (at-lines .part .ensures) (events .part2 .ensures)
+    (replies .part3 .ensures) (ends .shows)
     (ends .says)
 
 returns-5 : tie.Need-returns-5
@@ -135,8 +142,10 @@ returns-5 c =
     let s = named .before .before .before .before .before .before in
     let x = s .args in
     let text = noted (at-lines .part .result .now) ++ reported (named .outcome .given .0 .0 .«left_out») in
-    let ends = no-call-there (x .call .now) (entries plain (events .part2 .result .now)) (replies .part3 .result .now) (x .whole .now) _ text (done .capture .ensures) (c .enum-told4 .given .1) in
-    of-lines (x .call .now) (x .out .now) (x .log .now) (named .outcome .given .1) (at-lines .part .ensures) (events .part2 .ensures) (replies .part3 .ensures) (ends .shows)
+    let ends = no-call-there (x .call .now) (entries plain (events .part2 .result .now)) (replies .part3 .result .now) (x .whole .now) _ text
+    (done .capture .ensures) (c .enum-told4 .given .1) in
+    of-lines (x .call .now) (x .out .now) (x .log .now) (named .outcome .given .1) (at-lines .part .ensures) (events .part2 .ensures)
+    (replies .part3 .ensures) (ends .shows)
     (ends .says)
 
 pub put-capture-spec : {M : Type 1} → statement M

@@ -34,7 +34,8 @@ returns-2 c =
     let start = at-if1 .before .before in
     let x = start .args in
     rw (ne-eqb (x .left) 0 (at-if1 .if1 .left))
-    (told-behind (x .out .now) (ascii "log2uds: 'dropped' lines left out:") (x .at) (x .left) (put .put-item .result) _ (start .pre) (omega arith) (omega arith)
+    (told-behind (x .out .now) (ascii "log2uds: 'dropped' lines left out:") (x .at) (x .left) (put .put-item .result) _ (start .pre) (omega arith)
+    (omega arith)
     (put .put-item .ensures))
 
 pub put-left-out-spec : {M : Type 1} → statement M
