@@ -129,3 +129,12 @@ try "udslogs: 65,535 is a length" 0 "cut 2" "" says_longest
 try "udslogs: the number of a cut log behind many" 0 "cut 70001" "" says_many
 try "udslogs: a length and a cut, fed in pieces" 0 "length 1 65537"$'\n'"cut 3" "" says_in_pieces
 try "udslogs: what is said of the gate's own file" 0 "same" "" as_in_the_gate
+
+# The file that the gate runs the program on is what its script writes, and passes every branch of its reading and writing.
+try "udslogs: the gate's own file" 0 "" "" scripts/udslogs-input --check
+shorter() { # a copy of the repository's part in which the file passes no read behind the first
+    mkdir -p "$room/top/scripts" "$room/top/crates/udslogs/src" "$room/top/crates/replay" && cp scripts/udslogs-input "$room/top/scripts/" || return
+    cp -r crates/replay/data "$room/top/crates/replay/" && sed 's/let mut input = \[0u8; [0-9]*\]/let mut input = [0u8; 9999999]/' crates/udslogs/src/main.rt \
+        >"$room/top/crates/udslogs/src/main.rt" && cp crates/udslogs/std* "$room/top/crates/udslogs/" && "$room/top/scripts/udslogs-input" --check
+}
+try "udslogs: a file that passes too little" 1 "" "does not pass*more is read behind what is held" shorter
