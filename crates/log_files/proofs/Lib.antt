@@ -3,4 +3,5 @@ pub mod Files
 pub mod Long
 pub mod Said
 pub mod Laws
+pub mod Silent
 pub mod Rows

@@ -62,3 +62,13 @@ abbrev pub BothAreSaid : Type 0
 BothAreSaid =
     (n : ℕ) (log : List ℕ) (k : ℕ) → 65535 < length log → 4 ≤ k → k < 4 + length log →
     saidFrom n (take k (framed log)) ≡ lengthLine n (length log) ++ cutLine n
+
+-- A file that is made of whole logs.
+pub record Logs (file : List ℕ) : Type 0 where
+  pub logs : List (List ℕ)
+  pub is : file ≡ fileOf logs
+  pub each : every possible logs ≡ true
+
+-- Of no other file nothing is said.
+abbrev pub OnlyOfWholeLogs : Type 0
+OnlyOfWholeLogs = (file : List ℕ) → every isByte file ≡ true → saidOf file ≡ [] → Logs file
