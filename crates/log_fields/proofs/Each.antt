@@ -28,7 +28,64 @@ nine-stands addressed l = refl
 
 header-fine : (l : List ℕ) → let h = headerOf l in Every (Fine l) (heading h (length l))
 header-fine l =
-    let h = headerOf l in ((refl, omega arith), ((refl, omega arith), ((refl, omega arith), ((refl, omega arith), ((refl, omega arith), ((refl, omega arith), ((refl, omega arith), ((refl, omega arith), ((refl, omega arith), ((nine-stands (formIn h) l, omega arith), ((refl, omega arith), ((refl, omega arith), ((refl, omega arith), ((refl, omega arith), ((refl, omega arith), ((refl, omega arith), ((refl, omega arith), ((refl, omega arith), ((refl, omega arith), tt)))))))))))))))))))
+    let h = headerOf l in (
+      (refl, omega arith),
+      (
+        (refl, omega arith),
+        (
+          (refl, omega arith),
+          (
+            (refl, omega arith),
+            (
+              (refl, omega arith),
+              (
+                (refl, omega arith),
+                (
+                  (refl, omega arith),
+                  (
+                    (refl, omega arith),
+                    (
+                      (refl, omega arith),
+                      (
+                        (nine-stands (formIn h) l, omega arith),
+                        (
+                          (refl, omega arith),
+                          (
+                            (refl, omega arith),
+                            (
+                              (refl, omega arith),
+                              (
+                                (refl, omega arith),
+                                (
+                                  (refl, omega arith),
+                                  (
+                                    (refl, omega arith),
+                                    (
+                                      (refl, omega arith),
+                                      (
+                                        (refl, omega arith),
+                                        (
+                                          (refl, omega arith),
+                                          tt,
+                                        ),
+                                      ),
+                                    ),
+                                  ),
+                                ),
+                              ),
+                            ),
+                          ),
+                        ),
+                      ),
+                    ),
+                  ),
+                ),
+              ),
+            ),
+          ),
+        ),
+      ),
+    )
 
 -- What a call uses of a header can stand there: where data must be present, it may; no call has a sub-function both always and by flag 16.
 abbrev tests : Uses → List Bool
@@ -74,8 +131,65 @@ header-possible h n =
     let value = leb-true (u .value) 65535 (fit .1 .1 .1 .0) in
     let sub = leb-true (u .sub + u .named * 255) 255 (fit .1 .1 .1 .1 .0) in
     let lengths = leb-true (u .lengths) 255 (fit .1 .1 .1 .1 .1 .0) in
-    let small = small-header (formIn h) in
-    ((tt, tt, tt), λ right-headed. ((omega arith, omega arith, omega arith), λ right-version. ((omega arith, omega arith, omega arith), λ right-call. ((omega arith, omega arith, omega arith), λ right-flags. ((omega arith, omega arith, omega arith), λ right-flag. ((omega arith, omega arith, omega arith), λ right-value. ((omega arith, omega arith, omega arith), λ right-sub. ((omega arith, omega arith, omega arith), λ right-address. ((omega arith, omega arith, omega arith), λ right-size. (nine-possible (formIn h), λ right-listens. ((omega (arith, small), omega (arith, small), omega arith), λ right-arguments. ((omega arith, omega (arith, small), omega (arith, small)), λ right-begins. ((omega arith, omega arith, omega (arith, fewer (formIn h) (65535 - (headerSize (formIn h) + h .arguments)))), λ right-events. let these = at-most (formIn h) (h .events) (65535 - (headerSize (formIn h) + h .arguments)) (right-events .1) in ((omega arith, omega (arith, small), omega (arith, small)), λ right-eventsAt. ((omega arith, omega arith, omega arith), λ right-replies. ((omega arith, omega (arith, small, these), omega (arith, small, these)), λ right-repliesAt. ((omega arith, omega (arith, small, these), omega (arith, small, these)), λ right-total. ((omega arith, omega arith, omega arith), λ right-overall. ((omega arith, tt, tt), λ right-file. tt)))))))))))))))))))
+    let small = small-header (formIn h) in (
+      (tt, tt, tt),
+      λ right-headed. (
+        (omega arith, omega arith, omega arith),
+        λ right-version. (
+          (omega arith, omega arith, omega arith),
+          λ right-call. (
+            (omega arith, omega arith, omega arith),
+            λ right-flags. (
+              (omega arith, omega arith, omega arith),
+              λ right-flag. (
+                (omega arith, omega arith, omega arith),
+                λ right-value. (
+                  (omega arith, omega arith, omega arith),
+                  λ right-sub. (
+                    (omega arith, omega arith, omega arith),
+                    λ right-address. (
+                      (omega arith, omega arith, omega arith),
+                      λ right-size. (
+                        nine-possible (formIn h),
+                        λ right-listens. (
+                          (omega (arith, small), omega (arith, small), omega arith),
+                          λ right-arguments. (
+                            (omega arith, omega (arith, small), omega (arith, small)),
+                            λ right-begins. (
+                              (omega arith, omega arith, omega (arith, fewer (formIn h) (65535 - (headerSize (formIn h) + h .arguments)))),
+                              λ right-events.
+                                  let these = at-most (formIn h) (h .events) (65535 - (headerSize (formIn h) + h .arguments)) (right-events .1) in (
+                                    (omega arith, omega (arith, small), omega (arith, small)),
+                                    λ right-eventsAt. (
+                                      (omega arith, omega arith, omega arith),
+                                      λ right-replies. (
+                                        (omega arith, omega (arith, small, these), omega (arith, small, these)),
+                                        λ right-repliesAt. (
+                                          (omega arith, omega (arith, small, these), omega (arith, small, these)),
+                                          λ right-total. (
+                                            (omega arith, omega arith, omega arith),
+                                            λ right-overall. (
+                                              (omega arith, tt, tt),
+                                              λ right-file. tt,
+                                            ),
+                                          ),
+                                        ),
+                                      ),
+                                    ),
+                                  ),
+                            ),
+                          ),
+                        ),
+                      ),
+                    ),
+                  ),
+                ),
+              ),
+            ),
+          ),
+        ),
+      ),
+    )
 
 -- Decimals are of 20 digits at most.
 digits : (n v : ℕ) → length (decimalTo n v) ≤ n + 1

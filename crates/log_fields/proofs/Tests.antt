@@ -106,8 +106,64 @@ module _ (h : Header) (n : ℕ) where
       let most = leb-true (h .arguments) (both-lengths + flag 32 h * 65535) (t .1 .1 .1 .1 .1 .1 .1 .1 .1 .1 .0) in
       let at-arguments : h .arguments ≤ min (both-lengths + flag 32 h * 65535) (65535 - headerSize (formIn h)) = omega arith in
       let at-events = few-fit (formIn h) (h .events) (headerSize (formIn h) + h .arguments) (omega arith) in
-      let at-replies : h .replies ≤ 65535 - (h .eventsAt + h .events * eventSize (formIn h)) = omega arith in
-      ((omega (arith, leb-true), tt), (v, ((omega arith, omega (arith, leb-true)), ((omega (arith, leb-true), omega (arith, leb-true)), ((omega arith, omega (arith, leb-true)), ((omega arith, omega (arith, leb-true)), ((omega arith, omega (arith, leb-true)), ((omega arith, omega (arith, leb-true)), ((omega arith, omega (arith, leb-true)), ((omega arith, omega (arith, leb-true)), ((omega (arith, leb-true), at-arguments), ((omega (arith, eqb-true), omega (arith, eqb-true)), ((omega arith, at-events), ((omega (arith, eqb-true), omega (arith, eqb-true)), ((omega arith, at-replies), ((omega (arith, eqb-true), omega (arith, eqb-true)), ((omega (arith, eqb-true), omega (arith, eqb-true)), ((omega arith, omega (arith, leb-true)), ((omega (arith, eqb-true), omega (arith, eqb-true)), tt)))))))))))))))))))
+      let at-replies : h .replies ≤ 65535 - (h .eventsAt + h .events * eventSize (formIn h)) = omega arith in (
+        (omega (arith, leb-true), tt),
+        (
+          v,
+          (
+            (omega arith, omega (arith, leb-true)),
+            (
+              (omega (arith, leb-true), omega (arith, leb-true)),
+              (
+                (omega arith, omega (arith, leb-true)),
+                (
+                  (omega arith, omega (arith, leb-true)),
+                  (
+                    (omega arith, omega (arith, leb-true)),
+                    (
+                      (omega arith, omega (arith, leb-true)),
+                      (
+                        (omega arith, omega (arith, leb-true)),
+                        (
+                          (omega arith, omega (arith, leb-true)),
+                          (
+                            (omega (arith, leb-true), at-arguments),
+                            (
+                              (omega (arith, eqb-true), omega (arith, eqb-true)),
+                              (
+                                (omega arith, at-events),
+                                (
+                                  (omega (arith, eqb-true), omega (arith, eqb-true)),
+                                  (
+                                    (omega arith, at-replies),
+                                    (
+                                      (omega (arith, eqb-true), omega (arith, eqb-true)),
+                                      (
+                                        (omega (arith, eqb-true), omega (arith, eqb-true)),
+                                        (
+                                          (omega arith, omega (arith, leb-true)),
+                                          (
+                                            (omega (arith, eqb-true), omega (arith, eqb-true)),
+                                            tt,
+                                          ),
+                                        ),
+                                      ),
+                                    ),
+                                  ),
+                                ),
+                              ),
+                            ),
+                          ),
+                        ),
+                      ),
+                    ),
+                  ),
+                ),
+              ),
+            ),
+          ),
+        ),
+      )
 
   back : Every Right (heading h n) → Trues front × Trues areas × Trues used
   back r = (

@@ -78,7 +78,75 @@ module _ (l : List ℕ) (h : Header) (is : h ≡ headerOf l) where
   fs = headerFields h (usesOf (h .call)) (length l)
 
   named : Named fs names
-  named = (refl, (λ at k. refl), (refl, (λ at k. refl), (refl, (λ at k. refl), (refl, (λ at k. refl), (refl, (λ at k. refl), (refl, (λ at k. refl), (refl, (λ at k. refl), (refl, (λ at k. refl), (refl, (λ at k. nine-held (formIn h) at k), (refl, (λ at k. refl), (refl, (λ at k. refl), (refl, (λ at k. refl), (refl, (λ at k. refl), (refl, (λ at k. refl), (refl, (λ at k. refl), (refl, (λ at k. refl), (refl, (λ at k. refl), tt)))))))))))))))))
+  named = (
+    refl,
+    (λ at k. refl),
+    (
+      refl,
+      (λ at k. refl),
+      (
+        refl,
+        (λ at k. refl),
+        (
+          refl,
+          (λ at k. refl),
+          (
+            refl,
+            (λ at k. refl),
+            (
+              refl,
+              (λ at k. refl),
+              (
+                refl,
+                (λ at k. refl),
+                (
+                  refl,
+                  (λ at k. refl),
+                  (
+                    refl,
+                    (λ at k. nine-held (formIn h) at k),
+                    (
+                      refl,
+                      (λ at k. refl),
+                      (
+                        refl,
+                        (λ at k. refl),
+                        (
+                          refl,
+                          (λ at k. refl),
+                          (
+                            refl,
+                            (λ at k. refl),
+                            (
+                              refl,
+                              (λ at k. refl),
+                              (
+                                refl,
+                                (λ at k. refl),
+                                (
+                                  refl,
+                                  (λ at k. refl),
+                                  (
+                                    refl,
+                                    (λ at k. refl),
+                                    tt,
+                                  ),
+                                ),
+                              ),
+                            ),
+                          ),
+                        ),
+                      ),
+                    ),
+                  ),
+                ),
+              ),
+            ),
+          ),
+        ),
+      ),
+    ),
+  )
 
   read-as : textOf (first (heading h (length l) ++ eventFields h l)) ≡ offLine l
   unfolding offLine firstOff
