@@ -1,5 +1,5 @@
--- Of a whole call: at most one answer fits its contract, and demands 1 and 3, the bound of a limit, that foreign replies change nothing and that lenient only adds answers are
--- carried to the code; and of two calls in a row.
+-- Of a whole call: at most one answer fits its contract, and demands 1 to 3, the bound of a limit, that foreign replies change nothing and that
+-- lenient only adds answers are carried to the code; and of two calls in a row.
 use Prim.Native.Nat.{ℕ, _+_, _*_, _≤_}
 use mathlib.Core.Bool.{Bool, true, false}
 use mathlib.Core.Path.{_≡_, refl, sym, _∙_, ap, subst, subst⁻¹}
@@ -20,6 +20,9 @@ use Rattle.rules.proofs.Demand3.{demand3}
 use Rattle.rules.proofs.Foreign.{foreign-replies}
 use Rattle.rules.proofs.Lenient.{lenient}
 use Rattle.rules.proofs.Limited.{limited-holds}
+use Rattle.original.specs.Demand2.{Domain, ofRust}
+use Rattle.original.specs.Shown.{called}
+use Rattle.original.proofs.Demand2.{demand2}
 use Rattle.exchange.specs.Meaning.{answerOf}
 use Rattle.exchange.specs.Places.{Answers}
 use Rattle.exchange.specs.declared.types.Answer.{Answer}
@@ -52,6 +55,12 @@ demand-3 {w = w} {c = c} {l = l} {r = r} k n t ok x =
     let d = demand3 w c l n t (λ z. ok (subst⁻¹ (λ (y : rules.Answer). demand.Refused (y .outcome)) same z)) x in
     (λ h. d .0 (sym same ∙ h .0, h .1), λ h. let y = d .1 h in (same ∙ y .0, y .1))
 
+-- Demand 2: in document 01's domain a call gives what the Rust gives: outcome, finishing time, data or number, a deviation with its bounds and reply,
+-- the session timing and the bytes sent; where it is refused with 1 to 7 the Rust panics or fails, and has sent nothing.
+pub demand-2 : {strict : Bool} {w : Setting} {c : Call} {l : Lent} {r : Answered} {buffer : List ℕ} → Called strict w c l r buffer → Domain w c l
+    → ofRust strict w c l ≡ called c (resultOf (l .replies) r buffer)
+demand-2 {strict} {w} {c} {l} k h = demand2 strict w c l h ∙ ap (called c) (sym (k .means))
+
 -- Demand 1's second sentence: a refused call has one number of document 01's, sent nothing, and leaves the request buffer and the session timing as they were.
 pub demand-1 : {strict : Bool} {w : Setting} {c : Call} {l : Lent} {r : Answered} {buffer : List ℕ} {n : ℕ} → Called strict w c l r buffer
     → answerOf (l .replies) (r .answer) .outcome ≡ rules.refused n → Untouched w c l n (resultOf (l .replies) r buffer)
@@ -61,8 +70,8 @@ demand-1 {strict} {w} {c} {l} {n = n} k e =
 -- Request Nine: "with a limit every call finishes by P2 + K × P2*", P2 and P2* as at its start.
 pub finishes : {strict : Bool} {w : Setting} {c : Call} {l : Lent} {r : Answered} {buffer : List ℕ} {k : ℕ} → Called strict w c l r buffer → w .limit ≡ some k
     → r .answer .time ≤ w .timing .p2 + k * w .timing .star
-finishes {strict} {w} {c} {l} {k = k} called e =
-    subst⁻¹ (λ (y : Result). y .answer .time ≤ w .timing .p2 + k * w .timing .star) (called .means) (limited-holds .finishes strict w c l k e)
+finishes {strict} {w} {c} {l} {k = k} made e =
+    subst⁻¹ (λ (y : Result). y .answer .time ≤ w .timing .p2 + k * w .timing .star) (made .means) (limited-holds .finishes strict w c l k e)
 
 -- The same answer with n more events read.
 abbrev pub reading : ℕ → Answered → Answered

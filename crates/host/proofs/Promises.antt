@@ -1,4 +1,5 @@
--- Demands 1 and 3 of document 01, the bound of request Nine, the rope-inspection theorem of request Seven and what request Twelve says of lenient, carried to the fifteen numbers of the door: of any numbers and request that fit its contract with result 0.
+-- Demands 1 to 3 of document 01, the bound of request Nine, the rope-inspection theorem of request Seven and what request Twelve says of lenient,
+-- carried to the fifteen numbers of the door: of any numbers and request that fit its contract with result 0.
 use Prim.Native.Nat.{ℕ, _+_, _*_, _≤_}
 use native.Mathlib.Omega.{arith}
 use mathlib.Core.Bool.{Bool, true, false, cond, false≢true}
@@ -24,6 +25,9 @@ use Rattle.rules.proofs.Demand3.{demand3}
 use Rattle.rules.proofs.Foreign.{foreign-replies}
 use Rattle.rules.proofs.Lenient.{lenient}
 use Rattle.rules.proofs.Limited.{limited-holds}
+use Rattle.original.specs.Demand2.{Domain, ofRust}
+use Rattle.original.specs.Shown.{called}
+use Rattle.original.proofs.Demand2.{demand2}
 use Rattle.numbers.specs.Numbers.{valuesOf, answerNumbers, numbersOf}
 use Rattle.log_call.specs.Asking.{chosen}
 use Rattle.door.specs.Door.{limitIn, asked}
@@ -121,6 +125,11 @@ module _ {b : Bool} (h : Header) (k : ℕ) (a s : Field) (d : List ℕ) (l : Len
       let found = is-refused (result .answer .outcome) (ap (λ (y : ℕ). eqb y 9) (sym outcome-is ∙ e)) in
       let u = demand1 (eqb (flag 1 h) 1) setting (chosen h a s d) l (found .0) (found .1) in
       (found .0, (u .numbered, numbers-are ∙ refused-numbers result (found .1) u, request-is ∙ u .buffer))
+
+  -- In document 01's domain the numbers and the request are those of a result that, told so, is what the Rust gives.
+  pub demand-2 : Domain setting (chosen h a s d) l
+      → (told′ ≡ numbersOf result) × (after′ ≡ result .buffer) × (ofRust (eqb (flag 1 h) 1) setting (chosen h a s d) l ≡ called (chosen h a s d) result)
+  demand-2 k = (numbers-are, request-is, demand2 (eqb (flag 1 h) 1) setting (chosen h a s d) l k)
 
   -- With a limit of k notices it finishes by P2 + k × P2*.
   pub finishes : leb k 255 ≡ true → timeIn told′ ≤ setting .timing .p2 + k * setting .timing .star

@@ -1,4 +1,4 @@
--- What every call of a client promises, by the contract `Asks` that each of them has: demands 1 and 3 of document 01.
+-- What every call of a client promises, by the contract `Asks` that each of them has: demands 1 to 3 of document 01.
 use Prim.Native.Nat.{ℕ}
 use mathlib.Core.Bool.{Bool, true}
 use mathlib.Core.Path.{_≡_, ap, subst}
@@ -11,6 +11,8 @@ use Rattle.rules.specs.Conversations.{Conversation}
 use Rattle.rules.specs.Demand1.{Untouched}
 use Rattle.rules.specs.Demand3 as demand
 use Rattle.rules.specs.Settings.{Setting, Lent}
+use Rattle.original.specs.Demand2.{Domain, ofRust}
+use Rattle.original.specs.Shown.{called}
 use Rattle.exchange.specs.Meaning.{answerOf, overallOf}
 use Rattle.exchange.specs.declared.types.RequestTimeout.the-variants.{Never}
 use Rattle.requests.specs.declared.Call.{Call}
@@ -40,6 +42,9 @@ module _ (u : UDSClient) (quiet : Bool) (c : calls.Call) (before events replies 
   module _ {r : Answered} {after : List ℕ} (asks : Asks u quiet c before events replies r after) where
     pub demand-1 : {n : ℕ} → answerOf replies (r .answer) .outcome ≡ rules.refused n → Untouched made c lent n (resultOf replies r after)
     demand-1 = whole.demand-1 asks
+
+    pub demand-2 : Domain made c lent → ofRust (u .config .strict) made c lent ≡ called c (resultOf replies r after)
+    demand-2 = whole.demand-2 asks
 
     pub demand-3 : u .config .strict ≡ true → u .config .«request_timeout» ≡ Never → demand.Named c → ¬ demand.Refused (answerOf replies (r .answer) .outcome) → (x : rules.Answer)
         → ((answerOf replies (r .answer) ≡ x) × demand.Answers (x .outcome)) ↔ Conversation made c (eventsIn lent) x
