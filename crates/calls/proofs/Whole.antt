@@ -6,6 +6,7 @@ use mathlib.Core.Path.{_≡_, refl, sym, _∙_, ap, subst, subst⁻¹}
 use mathlib.Core.Logic.{_↔_, _≢_, _⊎_, inl, inr}
 use mathlib.Core.List.{List, map}
 use mathlib.Core.Option.{none, some}
+use lib.ListN.{length, take}
 use Rattle.rules.specs.Answers as rules
 use Rattle.rules.specs.Calls.{Call, requestOf}
 use Rattle.rules.specs.Client.{Result, entriesIn, eventsIn, call}
@@ -13,6 +14,7 @@ use Rattle.rules.specs.Conversations.{Conversation}
 use Rattle.rules.specs.Demand1.{Untouched, FirstToFail}
 use Rattle.rules.specs.Demand3 as demand
 use Rattle.rules.specs.Lenient.{Deviates}
+use Rattle.rules.specs.Limited.{repliesIn}
 use Rattle.rules.specs.Foreign.{leftIn, raised, passedOver, withAnswer, bare, bareAnswer, uncounted, dropped}
 use Rattle.rules.specs.Refusals.{refusals}
 use Rattle.rules.specs.Settings.{Timing, Setting, Lent}
@@ -86,6 +88,13 @@ pub finishes : {strict : Bool} {w : Setting} {c : Call} {l : Lent} {r : Answered
     → r .answer .time ≤ w .timing .p2 + k * w .timing .star
 finishes {strict} {w} {c} {l} {k = k} made e =
     subst⁻¹ (λ (y : Result). y .answer .time ≤ w .timing .p2 + k * w .timing .star) (made .means) (limited-holds .finishes strict w c l k e)
+
+-- And "reads at most K + 1 replies from the address it listens to", among the events that it counts.
+pub reads-few : {strict : Bool} {w : Setting} {c : Call} {l : Lent} {r : Answered} {buffer : List ℕ} {k : ℕ} → Called strict w c l r buffer
+    → w .limit ≡ some k → length (repliesIn (take (r .answer .events) (eventsIn l))) ≤ k + 1
+reads-few {strict} {w} {c} {l} {k = k} made e =
+    subst⁻¹ (λ (y : Result). length (repliesIn (take (y .answer .events) (eventsIn l))) ≤ k + 1) (made .means)
+    (limited-holds .reads-few strict w c l k e)
 
 -- The same answer with n more events read.
 abbrev pub reading : ℕ → Answered → Answered
