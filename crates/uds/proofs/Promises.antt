@@ -25,9 +25,11 @@ use Rattle.uds.specs.Clients.{askOf, Asks}
 use Rattle.uds.specs.declared.UDSClient.{UDSClient}
 
 -- What is asked is the client's: `f` says the call with what stands beside it.
-pub as-asked : (u : UDSClient) (quiet : Bool) (k : Call) (f : Call → calls.Call) {before events replies : List ℕ} {r : Answered} {b : List ℕ} {a : Ask} → a ≡ askOf u quiet k
+pub as-asked : (u : UDSClient) (quiet : Bool) (k : Call)
+    (f : Call → calls.Call) {before events replies : List ℕ} {r : Answered} {b : List ℕ} {a : Ask} → a ≡ askOf u quiet k
     → Called (a .strict) (settingOf a (u .session)) (f (a .call)) (lentOf (a .channel) before events replies) r b
-    → Called (u .config .strict) (settingOf (askOf u quiet call.TesterPresent) (u .session)) (f k) (lentOf (u .config .channel) before events replies) r b
+    → Called (u .config .strict) (settingOf (askOf u quiet call.TesterPresent) (u .session)) (f k)
+    (lentOf (u .config .channel) before events replies) r b
 as-asked u quiet k f {before} {events} {replies} {r} {b} e =
     subst (λ (x : Ask). Called (x .strict) (settingOf x (u .session)) (f (x .call)) (lentOf (x .channel) before events replies) r b) e
 
@@ -46,7 +48,8 @@ module _ (u : UDSClient) (quiet : Bool) (c : calls.Call) (before events replies 
     pub demand-2 : Domain made c lent → ofRust (u .config .strict) made c lent ≡ called c (resultOf replies r after)
     demand-2 = whole.demand-2 asks
 
-    pub demand-3 : u .config .strict ≡ true → u .config .«request_timeout» ≡ Never → demand.Named c → ¬ demand.Refused (answerOf replies (r .answer) .outcome) → (x : rules.Answer)
+    pub demand-3 : u .config .strict ≡ true → u .config .«request_timeout» ≡ Never → demand.Named c
+        → ¬ demand.Refused (answerOf replies (r .answer) .outcome) → (x : rules.Answer)
         → ((answerOf replies (r .answer) ≡ x) × demand.Answers (x .outcome)) ↔ Conversation made c (eventsIn lent) x
     demand-3 strict never n ok x =
         whole.demand-3 (subst (λ (s : Bool). Called s made c lent r after) strict asks) n (ap overallOf never) ok x
