@@ -16,7 +16,7 @@ use Rattle.rules.specs.Demand1.{Numbered}
 use Rattle.rules.specs.Demand3.{Named, Refused, Answers}
 use Rattle.rules.specs.Foreign.{leftIn, raised, uncounted, bare, bareAnswer}
 use Rattle.rules.specs.Lenient.{Deviates}
-use Rattle.rules.specs.Lines.{ascii, hex, line, badlog}
+use Rattle.rules.specs.Lines.{ascii, decimalTo, hex, line, badlog}
 use Rattle.rules.specs.Logs.{headerOf, flag, layoutOk, callOf, settingOf, lentOf, answerOf, lineOf}
 use Rattle.rules.specs.Settings.{Setting, Lent}
 use Rattle.rules.proofs.Demand1.{demand1}
@@ -106,7 +106,7 @@ abbrev pub refusedLine : ℕ → List ℕ
 refusedLine n = ascii "refused 0 0 0 " ++ hex (n ∷ []) ++ (10 ∷ [])
 
 refused-line : (n : ℕ) (x : Answer) → x .outcome ≡ refused n → x .time ≡ 0 → x .events ≡ 0 → x .notices ≡ 0 → line x ≡ refusedLine n
-unfolding line
+unfolding line decimalTo
 refused-line n x o t e k = rw (o, t, e, k) refl
 
 module _ (l : List ℕ) where
