@@ -237,32 +237,33 @@ struct bintrochis_block {
 /* There is no such fault. */
 #define BINTROCHIS_NO_FAULT SIZE_MAX
 
-/* The proved functions. A slice is a pointer, never null, and a length. `limit` is 0 to 255, or 65535 for none; 256 to 65534 are misuse. */
+/* The proved functions. A slice is a pointer, never null, and a length, which has 64 bits on every processor: so it is in the proved module, also
+ * where size_t has 32. `limit` is 0 to 255, or 65535 for none; 256 to 65534 are misuse. */
 uint8_t bintrochis_door_call(uint8_t call, uint8_t flags, uint16_t value, uint8_t sub, uint8_t address_length, uint8_t size_length, uint32_t p2,
                              uint32_t p2_star, uint32_t overall, uint16_t limit, bool addressed, uint16_t listens, const uint8_t *arguments,
-                             size_t arguments_length, uint8_t *request, size_t request_length, const uint8_t *events, size_t events_length,
-                             const uint8_t *replies, size_t replies_length, uint64_t *answer);
-uint8_t bintrochis_door_call_alfid(uint8_t call, uint8_t flags, uint16_t value, uint64_t address, uint64_t size, size_t address_width,
-                                   size_t size_width, bool wide, uint32_t p2, uint32_t p2_star, uint32_t overall, uint16_t limit,
-                                   bool addressed, uint16_t listens, const uint8_t *data, size_t data_length, uint8_t *request,
-                                   size_t request_length, const uint8_t *events, size_t events_length, const uint8_t *replies,
-                                   size_t replies_length, uint64_t *answer);
+                             uint64_t arguments_length, uint8_t *request, uint64_t request_length, const uint8_t *events, uint64_t events_length,
+                             const uint8_t *replies, uint64_t replies_length, uint64_t *answer);
+uint8_t bintrochis_door_call_alfid(uint8_t call, uint8_t flags, uint16_t value, uint64_t address, uint64_t size, uint64_t address_width,
+                                   uint64_t size_width, bool wide, uint32_t p2, uint32_t p2_star, uint32_t overall, uint16_t limit,
+                                   bool addressed, uint16_t listens, const uint8_t *data, uint64_t data_length, uint8_t *request,
+                                   uint64_t request_length, const uint8_t *events, uint64_t events_length, const uint8_t *replies,
+                                   uint64_t replies_length, uint64_t *answer);
 uint8_t bintrochis_door_begin(uint8_t call, uint8_t flags, uint16_t value, uint8_t sub, uint8_t address_length, uint8_t size_length, uint32_t p2,
                               uint32_t p2_star, uint32_t overall, uint16_t limit, uint16_t listens, const uint8_t *arguments,
-                              size_t arguments_length, uint8_t *request, size_t request_length, uint64_t *state);
-uint8_t bintrochis_door_begin_alfid(uint8_t call, uint8_t flags, uint16_t value, uint64_t address, uint64_t size, size_t address_width,
-                                    size_t size_width, bool wide, uint32_t p2, uint32_t p2_star, uint32_t overall, uint16_t limit,
-                                    uint16_t listens, const uint8_t *data, size_t data_length, uint8_t *request, size_t request_length,
+                              uint64_t arguments_length, uint8_t *request, uint64_t request_length, uint64_t *state);
+uint8_t bintrochis_door_begin_alfid(uint8_t call, uint8_t flags, uint16_t value, uint64_t address, uint64_t size, uint64_t address_width,
+                                    uint64_t size_width, bool wide, uint32_t p2, uint32_t p2_star, uint32_t overall, uint16_t limit,
+                                    uint16_t listens, const uint8_t *data, uint64_t data_length, uint8_t *request, uint64_t request_length,
                                     uint64_t *state);
-uint8_t bintrochis_door_event(uint64_t *state, const uint8_t *request, size_t request_length, uint32_t time, uint16_t kind, uint16_t offset,
-                              uint16_t length, uint16_t source, const uint8_t *replies, size_t replies_length);
+uint8_t bintrochis_door_event(uint64_t *state, const uint8_t *request, uint64_t request_length, uint32_t time, uint16_t kind, uint16_t offset,
+                              uint16_t length, uint16_t source, const uint8_t *replies, uint64_t replies_length);
 uint8_t bintrochis_door_tick(uint64_t *state, uint64_t now);
-size_t bintrochis_door_line(const uint8_t *log, size_t log_length, uint8_t *line, size_t line_length);
-uint8_t bintrochis_door_block(const uint8_t *data, size_t data_length, uint64_t block_length, uint64_t k, uint64_t *block);
-size_t bintrochis_door_faults(uint8_t mask, const uint8_t *records, size_t records_length);
-size_t bintrochis_door_fault(uint8_t mask, const uint8_t *records, size_t records_length, size_t k);
-uint8_t bintrochis_door_respond(uint8_t *store, size_t store_length, const uint8_t *request, size_t request_length, uint8_t *reply,
-                                size_t reply_length, uint64_t *length);
+uint64_t bintrochis_door_line(const uint8_t *log, uint64_t log_length, uint8_t *line, uint64_t line_length);
+uint8_t bintrochis_door_block(const uint8_t *data, uint64_t data_length, uint64_t block_length, uint64_t k, uint64_t *block);
+uint64_t bintrochis_door_faults(uint8_t mask, const uint8_t *records, uint64_t records_length);
+uint64_t bintrochis_door_fault(uint8_t mask, const uint8_t *records, uint64_t records_length, uint64_t k);
+uint8_t bintrochis_door_respond(uint8_t *store, uint64_t store_length, const uint8_t *request, uint64_t request_length, uint8_t *reply,
+                                uint64_t reply_length, uint64_t *length);
 
 /* What the structs become. A struct of numbers has an array's layout. */
 typedef char bintrochis_answer_has_15_numbers[sizeof(struct bintrochis_answer) == 15 * sizeof(uint64_t) ? 1 : -1];
@@ -406,7 +407,7 @@ static inline size_t bintrochis_line(const uint8_t *log, size_t log_length, char
     if (bintrochis_lacks(log, log_length) || line == NULL) {
         return 0;
     }
-    return bintrochis_door_line(bintrochis_read(log), log_length, (uint8_t *)(void *)line, line_length);
+    return (size_t)bintrochis_door_line(bintrochis_read(log), log_length, (uint8_t *)(void *)line, line_length);
 }
 
 /* Block k, from 0, of `data` under the block length that call 11 returned. BINTROCHIS_RESULT_DONE: it stands in `block`. Refusal 11 or 12: `block`
@@ -420,12 +421,17 @@ static inline uint8_t bintrochis_block(const uint8_t *data, size_t data_length, 
 
 /* How many of the records that call 15 hands out, behind the availability mask, have a status that shares a bit with the mask. */
 static inline size_t bintrochis_faults(uint8_t mask, const uint8_t *records, size_t records_length) {
-    return bintrochis_lacks(records, records_length) ? 0 : bintrochis_door_faults(mask, bintrochis_read(records), records_length);
+    return bintrochis_lacks(records, records_length) ? 0 : (size_t)bintrochis_door_faults(mask, bintrochis_read(records), records_length);
 }
 
-/* Where the k-th of them, from 0, begins: three bytes of code, then the status. BINTROCHIS_NO_FAULT: there are not so many. */
+/* Where the k-th of them, from 0, begins: three bytes of code, then the status. BINTROCHIS_NO_FAULT: there are not so many. The records are read
+ * up to it; who wants them all asks for the 0-th of those behind the last one. */
 static inline size_t bintrochis_fault(uint8_t mask, const uint8_t *records, size_t records_length, size_t k) {
-    return bintrochis_lacks(records, records_length) ? BINTROCHIS_NO_FAULT : bintrochis_door_fault(mask, bintrochis_read(records), records_length, k);
+    if (bintrochis_lacks(records, records_length)) {
+        return BINTROCHIS_NO_FAULT;
+    }
+    /* a place lies within the records, so a size_t holds it; all ones, for none, become BINTROCHIS_NO_FAULT */
+    return (size_t)bintrochis_door_fault(mask, bintrochis_read(records), records_length, k);
 }
 
 /* The reply of a controller on the bench, whose store is as for `udsbench`. BINTROCHIS_RESULT_DONE: it has `*length` bytes at the front of

@@ -7,7 +7,7 @@ tools=$room/tools
 calls=$room/calls
 mkdir -p "$repository/scripts" "$repository"/crates/{rules,wire,udslog,other}/src "$tools"
 cp udslog "$repository/"
-cp scripts/program "$repository/scripts/"
+cp scripts/{launcher,program} "$repository/scripts/"
 echo 'fn main() {}' >"$repository/crates/udslog/src/main.rt"
 touch "$repository"/crates/{rules,wire,other}/src/{lib,more}.rt
 printf '%s\n' '# the crates' 'udslog: wire io # and the kit' 'wire : rules' 'rules:' 'other: rules' >"$repository/crates.txt"

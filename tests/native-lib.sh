@@ -21,11 +21,12 @@ staticlib)
         exit 1
     fi
     mkdir -p target/staticlib
+    [ ! -e slow ] || sleep 0.1
     echo "\$2 \$(wc -l <"$builds")" >"target/staticlib/lib\$2.a"
     ;;
 esac
 SCRIPT
-printf '#!/bin/sh\necho x86_64\n' >"$stand_ins/uname"
+printf '#!/bin/sh\necho "${MACHINE-x86_64}"\n' >"$stand_ins/uname"
 cat >"$stand_ins/cc" <<SCRIPT
 #!/bin/sh
 while [ \$# -gt 0 ]; do
@@ -94,3 +95,37 @@ try "native-lib: and its module is compiled only where something changed" 0 "$(f
 try "native-lib: which leaves this processor's alone" 0 "$(built 12)" "" archive
 try "native-lib: for this processor by its name" 0 "$(built 12)" "" archive --for x86_64
 try "native-lib: for no processor" 2 "" "usage: native-lib" native --for
+without_system() { printf "%s thumbv7em-unknown-none-eabi\\n" host alfid_door line_door step_door tick_door begin_door begin_alfid_door; }
+try "native-lib: for a third processor, by the same modules" 0 "target/native-thumbv7em/libbintrochis.a"$'\n'"$(without_system)" "" archive --for thumbv7em
+try "native-lib: a changed module is made anew, here without the compiler" 1 "" "rattle" native_after 'echo 8 >>target/modules/host.bc && rm -r target/native-thumbv7em' --for thumbv7em
+
+# A processor on which nobody tried the library.
+try "native-lib: for a processor that was never tried" 2 "" "never tried on the processor i686" native --for i686
+try "native-lib: on a processor that was never tried" 2 "" "never tried on the processor riscv64" env MACHINE=riscv64 PATH="$stand_ins:$PATH" "$library/scripts/native-lib"
+try "native-lib: and nothing is there for it" 1 "" "" test -e "$library/target/native-i686"
+
+# Two at once.
+if command -v flock >/dev/null; then
+    at_once() {
+        (cd "$library" && touch slow && echo 9 >>crates/rules/src/lib.rt)
+        (archive & archive && wait) | sort -u
+    }
+    try "native-lib: two at once build one after the other, and once" 0 "$(built 13 | sort)" "" at_once
+    rm "$library/slow"
+else
+    echo "skipped: two native-lib at once, since there is no flock on the path."
+fi
+
+# The build script of the bindings for Rust asks native-lib, so that it links no archive that is older than its sources.
+if command -v rustc >/dev/null; then
+    mkdir -p "$library/bindings/rust"
+    CARGO_MANIFEST_DIR=$library/bindings/rust rustc --edition 2021 -o "$room/build-script" bindings/rust/build.rs
+    linked() { # linked COMMAND: what the build script names after that, and the archive
+        (cd "$library" && eval "$1") && HOST=x86_64-linux TARGET=x86_64-linux PATH=$stand_ins:$PATH "$room/build-script" | sed -n 's/^cargo:rustc-link-lib=//p' &&
+            cat "$library/target/native/libbintrochis.a"
+    }
+    try "native-lib: cargo's build of a changed source" 0 "static:+verbatim=libbintrochis.a"$'\n'"$(built 14 | tail -n +2)" "" linked 'echo 10 >>crates/rules/src/lib.rt'
+    try "native-lib: cargo's build where nothing changed" 0 "static:+verbatim=libbintrochis.a"$'\n'"$(built 14 | tail -n +2)" "" linked :
+else
+    echo "skipped: the build script of the bindings for Rust, since there is no rustc on the path."
+fi

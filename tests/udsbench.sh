@@ -102,7 +102,7 @@ no_folder() { TMPDIR=$room/none ask 222101; }
 try "udsbench: through links, from another folder" 0 "62210103e8" "" linked
 try "udsbench: a copy builds nothing elsewhere" 1 "" "no program to build" copied
 try "udsbench: no temporary file stays" 0 "62210103e8" "" tidy
-try "udsbench: no folder for temporary files" 1 "" "cannot make a temporary file" no_folder
+try "udsbench: no folder for temporary files" 1 "" "cannot make a temporary folder" no_folder
 
 # The cable: a client that sends its second request when it has the first answer.
 client='echo 2e21020fa0; read -r a; echo 222102; read -r b; echo "$a $b" >&2'

@@ -52,24 +52,6 @@ try "udsbook: a week of examples" 0 "each counts once" "" whole_week
 calls() { ./udsbook summary "$week" | awk '{ print $1 }' | sort -nc; }
 try "udsbook: by call" 0 "" "" calls
 
-# README.md, "A week in one file": its commands as they stand there print what stands there.
-blocks=$(sed -n '/^### A week in one file$/,/^### Hoist/p' README.md)
-block() { awk -v n="$1" '/^    / { k += !inside; inside = 1; if (k == n) print substr($0, 5); next } { inside = 0 }' <<<"$blocks"; } # the n-th
-mkdir "$room/readme"
-ln -s "$PWD/udsbook" "$PWD/scripts" "$PWD/examples" "$room/readme"
-readme_add() { (cd "$room/readme" && bash -c "$(block 1)"); }
-readme_others() {
-    local hex
-    for hex in examples/*.hex; do
-        [ "$hex" != examples/02-wait-notice-first.hex ] || continue
-        ./udsbook add "$room/readme/week.book" <"$room/${hex##*/}.log" >"$room/readme/more" 2>/dev/null
-        mv "$room/readme/more" "$room/readme/week.book"
-    done
-    (cd "$room/readme" && bash -c "$(block 3)")
-}
-try "udsbook: README's book" 0 "" "$(block 2)" readme_add
-try "udsbook: README's summary" 0 "$(block 4)" "" readme_others
-
 # Refusals: with 22 and 23 the old book is written, with 24 and 25 nothing; the status says so.
 no_book() { ./udsbook add "$log" <"$log"; }
 bad_log() { ./udsbook add "$one" </dev/null | cmp - "$one"; }
@@ -79,11 +61,11 @@ try "udsbook: a log is no book" 3 "" "refused 25" no_book
 try "udsbook: the old book where the log is bad" 3 "" "refused 23" bad_log
 try "udsbook: and the status" 3 "" "refused 23" status_23
 try "udsbook: 25 comes first" 3 "" "refused 25" both_bad
-try "udsbook: no such log" 3 "" "refused 24" ./udsbook find "$one" 7 1
+try "udsbook: no such log" 3 "" "refused 24*there is no such log" ./udsbook find "$one" 7 1
 try "udsbook: no such call" 3 "" "refused 24" ./udsbook find "$one" 263 0
 try "udsbook: the largest numbers" 3 "" "refused 24" ./udsbook find "$one" 18446744073709551615 18446744073709551615
 try "udsbook: find in no book" 3 "" "refused 25" ./udsbook find "$log" 7 0
-try "udsbook: the summary of no book" 3 "" "refused 25" ./udsbook summary "$log"
+try "udsbook: the summary of no book" 3 "" "refused 25*is no book" ./udsbook summary "$log"
 longer() { (cat "$one" && printf x) >"$room/longer" && ./udsbook summary "$room/longer"; }
 try "udsbook: a byte more is no book" 3 "" "refused 25" longer
 
@@ -103,17 +85,17 @@ try "udsbook: 65,536 bytes" 0 65536 $'added 7 0\n7 timeout 1' fills
 try "udsbook: 65,537 bytes" 3 "" "refused 22" overflows
 try "udsbook: 65,536 bytes are no log" 3 "" "refused 23" too_long
 
-# Wrong usage: one line, and nothing else.
-usage='usage: udsbook new | add BOOK | find BOOK CALL K | summary BOOK'
+# Wrong usage: what is wrong, and the usage.
+usage='usage: udsbook new | add BOOK | add BOOK LOG | find BOOK CALL K | summary BOOK'
 try "udsbook: no words" 2 "" "$usage" ./udsbook
-try "udsbook: no such command" 2 "" "$usage" ./udsbook list "$one"
-try "udsbook: a word too many" 2 "" "$usage" ./udsbook new "$one"
-try "udsbook: a word too few" 2 "" "$usage" ./udsbook find "$one" 7
-try "udsbook: no number" 2 "" "$usage" ./udsbook find "$one" seven 0
+try "udsbook: no such command" 2 "" "no command 'list'*$usage" ./udsbook list "$one"
+try "udsbook: a word too many" 2 "" "new takes*$usage" ./udsbook new "$one"
+try "udsbook: a word too few" 2 "" "find takes*$usage" ./udsbook find "$one" 7
+try "udsbook: no number" 2 "" "are numbers*$usage" ./udsbook find "$one" seven 0
 try "udsbook: an empty number" 2 "" "$usage" ./udsbook find "$one" 7 ""
 try "udsbook: a number past 64 bits" 2 "" "$usage" ./udsbook find "$one" 7 18446744073709551616
-try "udsbook: a book that is not there" 2 "" "$usage" ./udsbook summary "$room/none"
-try "udsbook: a folder" 2 "" "$usage" ./udsbook summary "$room"
+try "udsbook: a book that is not there" 2 "" "$room/none cannot be read: No such file*$usage" ./udsbook summary "$room/none"
+try "udsbook: a folder" 2 "" "$room cannot be read: Is a directory*$usage" ./udsbook summary "$room"
 
 # What fails is told.
 full() { ./udsbook new >/dev/full; }
@@ -121,3 +103,63 @@ closed() { ./udsbook new >&-; }
 try "udsbook: a full disk" 1 "" "standard output cannot be written" full
 try "udsbook: standard output is closed" 1 "" "standard output cannot be written" closed
 try "udsbook: --help" 0 "$(./udsbook --help)" "" ./udsbook --help
+
+# In place: BOOK is replaced by a book that was written beside it, or it stays as it is, byte for byte, and nothing stays beside it.
+shelf="$room/a shelf"
+mkdir "$shelf"
+in_place() { # in_place BOOK COMMAND..: BOOK put on the shelf, and what COMMAND makes of it
+    local status
+    cp "$1" "$shelf/week" && chmod 640 "$shelf/week"
+    "${@:2}"
+    status=$?
+    if cmp -s "$1" "$shelf/week"; then echo "as it was"; else ./udsbook summary "$shelf/week"; fi
+    (cd "$shelf" && stat -c '%n %a' -- * .[!.]* 2>/dev/null)
+    return "$status"
+}
+as_before=$'as it was\nweek 640'
+add_in_place() { ./udsbook add "$shelf/week" "$1"; }
+from_input() { ./udsbook add "$shelf/week" - <"$log"; }
+by_link() { ln -sf "a shelf/week" "$room/link" && ./udsbook add "$room/link" "$log" && readlink "$room/link"; }
+same_as_old() { ./udsbook add "$empty" <"$log" >"$room/old-form" 2>/dev/null && add_in_place "$log" && cmp "$room/old-form" "$shelf/week"; }
+two_at_once() {
+    ./udsbook add "$shelf/week" "$log" 2>/dev/null &
+    ./udsbook add "$shelf/week" "$log" 2>/dev/null
+    wait
+}
+try "udsbook: a log added in place" 0 $'7 positive 1\nweek 640' $'added 7 0\n7 positive 1' in_place "$empty" add_in_place "$log"
+try "udsbook: the same book as to standard output" 0 $'7 positive 1\nweek 640' $'added 7 0\n7 positive 1' in_place "$empty" same_as_old
+try "udsbook: a log from standard input" 0 $'7 positive 1\nweek 640' "added 7 0" in_place "$empty" from_input
+try "udsbook: the book behind a link is replaced" 0 $'a shelf/week\n7 positive 1\nweek 640' "added 7 0" in_place "$empty" by_link
+if command -v flock >/dev/null; then
+    try "udsbook: two at once lose no log" 0 $'7 positive 2\nweek 640' "" in_place "$empty" two_at_once
+fi
+try "udsbook: a bad log leaves the book" 3 "$as_before" "refused 23*week stays as it was" in_place "$one" add_in_place /dev/null
+filler 65508 >"$room/filler"
+try "udsbook: no room leaves the book" 3 "$as_before" "refused 22*week stays as it was" in_place "$one" add_in_place "$room/filler"
+try "udsbook: no book stays what it is" 3 "$as_before" "refused 25*week stays as it was" in_place "$log" add_in_place "$log"
+try "udsbook: no log leaves the book" 1 "$as_before" "$room/none*No such file" in_place "$one" add_in_place "$room/none"
+try "udsbook: a log that cannot be read leaves the book" 1 "$as_before" "/proc/self/mem*Input/output error" \
+    in_place "$one" add_in_place /proc/self/mem
+try "udsbook: no book to add to" 2 "" "$room/none cannot be read: No such file*$usage" ./udsbook add "$room/none" "$log"
+try "udsbook: a folder is no book" 2 "" "cannot be read: Is a directory*$usage" ./udsbook add "$shelf" "$log"
+try "udsbook: a device cannot be replaced" 2 "" "is no file*$usage" ./udsbook add /dev/null "$log"
+no_folder() { TMPDIR=$room/none add_in_place "$log"; }
+try "udsbook: no temporary folder leaves the book" 1 "$as_before" "cannot make a temporary folder" in_place "$one" no_folder
+fixed() { # a folder in which nothing can be made; root may all the same, unless it gives that up
+    local status
+    chmod 555 "$shelf"
+    if [ "$(id -u)" -eq 0 ]; then
+        setpriv --bounding-set=-dac_override,-dac_read_search ./udsbook add "$shelf/week" "$log"
+    else
+        add_in_place "$log"
+    fi
+    status=$?
+    chmod 755 "$shelf"
+    return "$status"
+}
+try "udsbook: a folder that may not be written leaves the book" 1 "$as_before" "nothing can be written beside*stays as it was" in_place "$one" fixed
+full_beside() { (trap '' XFSZ && ulimit -f 64 && add_in_place "$log"); } # no file may have more than 65,536 bytes
+cut_beside() { (trap '' XFSZ && ulimit -f 63 && add_in_place "$log"); }
+filler 64436 | ./udsbook add "$empty" >"$room/large.book" 2>/dev/null # 64,464 bytes: 63 KiB less 48, and 64 + 8 more are too many
+try "udsbook: a full disk beside the book leaves it" 1 "$as_before" "cannot be written: File too large" in_place "$room/large.book" cut_beside
+try "udsbook: and with a little more room it goes" 0 $'7 positive 1\n7 timeout 1\nweek 640' "added 7 1" in_place "$room/large.book" full_beside

@@ -10,12 +10,12 @@ scripts/hex-to-log <examples/02-wait-notice-first.hex >"$notice"
 
 # The printed example, line by line.
 story='0 ms  request 22 f1 90 sent, strict. The clock starts: deadline 50 ms.
-20 ms  reply 7f 22 78: wait (notice 1). The longer clock starts: deadline 50 -> 5020 ms.
-900 ms  reply 62 f1 90 41 42: a positive answer (event 2). Call ends at 900 ms; deadline 5020 ms.
+20 ms  reply 7f 22 78: wait (notice 1). A new clock starts: deadline 50 -> 5020 ms.
+900 ms  reply 62 f1 90 41 42: taken as positive (event 2). Call ends at 900 ms; deadline 5020 ms.
 Check, length 4 or more: passed.
 Check, length 3 or more: passed.
 Check, the identifier asked for: passed.
-The answer stands at 900 ms. Events read: 2. Wait notices: 1.
+The call ends at 900 ms. Events read: 2. Wait notices: 1.
 positive 900 2 1 4142'
 from_input() { ./udsexplain <"$notice"; }
 try "udsexplain: a wait notice first" 0 "$story" "" ./udsexplain "$notice"
@@ -59,6 +59,66 @@ try "udsexplain: every log with addresses, too" 0 "$(wc -l <crates/replay/data/a
 wide() { for file in examples/*.hex; do scripts/hex-to-log <"$file" | ./udsexplain | sed '$d' | grep -v '\.\. (' | awk 'length > 100'; done; echo none; }
 try "udsexplain: no line of an example with short bytes is wider than 100 columns" 0 none "" wide
 
+# Sentences that are true of what they are told of. Call 15, strict, replies of 6 and of 10 bytes: both are 3 or more, and neither is whole records.
+third_line() { scripts/hex-to-log | ./udsexplain | sed -n 3p; }
+ten_bytes() { sed 's/^02   /03   /' examples/17-broken-tail-lenient.hex | third_line; }
+six_bytes() {
+    third_line <<<'0001 0F 03 0008 00 00 00 00 0000 0024 0001 0024 0006 002E 0034 00000032 00001388 00000000
+        0000000C 0000 0000 0006 5902FF010203'
+}
+try "udsexplain: call 15, 10 bytes: its first check by its own words" 0 "Check, a length of 3 plus a multiple of 4: failed." "" ten_bytes
+try "udsexplain: call 15, 6 bytes" 0 "Check, a length of 3 plus a multiple of 4: failed." "" six_bytes
+# Calls 11 and 12, lenient, a number of nine bytes above 64 bits.
+overflow() {
+    scripts/hex-to-log <<<"0001 $1 02 0000 00 02 01 00 0003 0024 0001 0027 000B 0031 003C 00000032 00001388 00000000 100002
+        0000000A 0000 0000 000B $2 90 01 0000000000000000" | ./udsexplain | sed -n '3,$p'
+}
+wide_number='Check, the lengths that lenient needs: passed.
+Check, a block length of at most 64 bits: failed.
+The call ends at 10 ms. Events read: 1. Wait notices: 0.'
+try "udsexplain: call 11, lenient: a number that is too large is no length" 0 "$wide_number"$'\noverflow 10 1 0 7490010000000000000000' "" overflow 0B 74
+try "udsexplain: call 12 as well" 0 "$wide_number"$'\noverflow 10 1 0 7590010000000000000000' "" overflow 0C 75
+# Refusal 10 is the events', in decimal; another is what is asked.
+tester() {
+    scripts/hex-to-log <<<"0001 04 03 0000 00 00 00 00 0000 0024 000$1 0024 0000 00$2 00$2 00000032 00001388 00000000 $3" | ./udsexplain
+}
+events_refused=$'The call is not made: its list of events breaks a limit, refusal 10.\nrefused 0 0 0 0a'
+try "udsexplain: an event of unknown kind" 0 "$events_refused" "" tester 1 2E '00000014 0004 0000 0000'
+try "udsexplain: times that fall" 0 "$events_refused" "" tester 2 38 '00000014 0001 0000 0000 00000013 0001 0000 0000'
+no_key() { scripts/hex-to-log <<<'0001 03 03 0000 02 00 00 00 0000 0024 0000 0024 0000 0024 0024 00000032 00001388 00000000' | ./udsexplain; }
+try "udsexplain: a call that cannot be asked for" 0 $'The call is not made: what it asks for is not allowed, refusal 1.\nrefused 0 0 0 01' "" no_key
+# A reply that a check throws away, and silence that was asked for: no answer is said to stand.
+told() { scripts/hex-to-log <"$1" | ./udsexplain; }
+thrown_away='0 ms  request 22 21 01 sent, strict. The clock starts: deadline 50 ms.
+9 ms  reply 62 22 01 07 d0: taken as positive (event 1). Call ends at 9 ms; deadline 50 ms.
+20 ms  reply 62 21 01 03 e9: never read.
+Check, length 4 or more: passed.
+Check, length 3 or more: passed.
+Check, the identifier asked for: failed.
+The call ends at 9 ms. Events read: 1. Wait notices: 0.
+deviation 9 1 0 0562220107d0'
+try "udsexplain: a reply that a check throws away" 0 "$thrown_away" "" told course/06-strict-on.hex
+silence() { told course/03-quiet.hex | sed -n '2,$p'; }
+kept='50 ms  deadline: no answer came in time, as was asked for. The call ends as suppressed.
+The call ends at 50 ms. Events read: 0. Wait notices: 0.
+suppressed 50 0 0 -'
+try "udsexplain: silence that was asked for" 0 "$kept" "" silence
+
+# Of a bad log no number is asked for that the field cannot hold: a count that is too large is off itself.
+patched() {
+    python3 -c '
+import sys
+log, at = bytearray(open(sys.argv[1], "rb").read()), int(sys.argv[2])
+log[at : at + 2] = bytes.fromhex(sys.argv[3])
+sys.stdout.buffer.write(log)' "$notice" "$@" | ./udsexplain | sed -n 1p
+}
+try "udsexplain: too many events" 0 "This is no log: events-count (byte 14) is 65535 and should be 0 to 6549." "" patched 14 ffff
+try "udsexplain: too many reply bytes" 0 "This is no log: replies-count (byte 18) is 65535 and should be 0 to 65479." "" patched 18 ffff
+few_arguments() {
+    scripts/hex-to-log <<<'0001 06 21 0000 00 01 02 00 0001 0024 0000 0025 0000 0025 0025 00000032 00001388 00000000 20' | ./udsexplain | sed -n 1p
+}
+try "udsexplain: too few argument bytes" 0 "This is no log: arguments-count (byte 10) is 1 and should be 3 to 65499." "" few_arguments
+
 # Input that is no log.
 empty() { ./udsexplain </dev/null; }
 zeros() { timeout 20 ./udsexplain </dev/zero; }
@@ -79,14 +139,61 @@ help() { ./udsexplain --help | sed -n 1p; }
 try "udsexplain: --help" 0 "usage: udsexplain [FILE].." "" help
 try "udsexplain: no such option" 2 "" "there is no option -x" ./udsexplain -x
 
-# The picture: marks by kind, the answer at its time, and words that are no story are told.
+# The picture: marks by kind, the end of the call at its time.
 drawn() { ./udsexplain "$notice" | scripts/story-to-svg | grep -c "$1"; }
 try "story-to-svg: two clocks" 0 2 "" drawn '>clock from'
 try "story-to-svg: the notice is a diamond" 0 1 "" drawn 'm-8,0 l8,-8'
-try "story-to-svg: one answer" 0 1 "" drawn '>answer<'
+try "story-to-svg: one end" 0 1 "" drawn '>end<'
 shown() { ./udsexplain "$notice" | scripts/story-to-svg | cmp - docs/pictures/wait-notice.svg && scripts/hex-to-log <examples/18-trolley-late-count.hex | ./udsexplain | scripts/story-to-svg | cmp - docs/pictures/trolley-late-count.svg && echo same; }
 try "story-to-svg: the pictures of README are what it draws" 0 same "" shown
-no_story() { printf 'hoist\nlast\n' | scripts/story-to-svg; }
+# The word under the double line stands clear of the last line: 20 pixels or more above it.
+clear() {
+    for file in examples/*.hex course/*.hex; do
+        scripts/hex-to-log <"$file" | ./udsexplain | scripts/story-to-svg | python3 -c '
+import re, sys
+picture = sys.stdin.read()
+height = int(re.search(r"height=\"(\d+)\"", picture)[1])
+for y in re.findall(r"y=\"(\d+)\" text-anchor=\"middle\" font-size=\"12\"", picture):
+    if int(y) > height - 14 - 20:
+        print(sys.argv[1], y, height)' "$file"
+    done
+    echo clear
+}
+try "story-to-svg: no word over the last line" 0 clear "" clear
+# Twenty notices: each time on the axis has its room.
+twenty() {
+    python3 -c '
+import struct, sys
+events = b"".join(struct.pack(">IHHH", 40 * i, 0, 0, 3) for i in range(1, 21))
+header = struct.pack(">HBBHBBBBHHHHHHHIII", 1, 7, 3, 0xF190, 0, 0, 0, 0, 0, 36, 20, 36, 3, 236, 239, 50, 5000, 0)
+sys.stdout.buffer.write(header + events + bytes.fromhex("7f2278"))' | ./udsexplain | scripts/story-to-svg | python3 -c '
+import re, sys
+end = 0
+for x, label in re.findall(r"x=\"(\d+)\" y=\"50\" text-anchor=\"middle\">(\d+)<", sys.stdin.read()):
+    if int(x) - 4 * len(label) < end:
+        print("over another:", label)
+    end = int(x) + 4 * len(label)
+print("apart")'
+}
+try "story-to-svg: twenty notices, no label over another" 0 apart "" twenty
+# Input that is no story: a message, status 1, and no picture.
+no_story() { printf 'hoist\npositive 900 2 1 4142\n' | scripts/story-to-svg; }
 nothing() { scripts/story-to-svg </dev/null; }
+one_line() { ./udslog "$notice" | scripts/story-to-svg; }
+binary() { scripts/story-to-svg <"$notice"; }
+no_last_line() { ./udsexplain "$notice" | sed '$d' | scripts/story-to-svg; }
+no_first_line() { ./udsexplain "$notice" | sed 1d | scripts/story-to-svg; }
+two_stories() { cat <(./udsexplain "$notice") <(./udsexplain "$notice") | scripts/story-to-svg; }
+control() { ./udsexplain "$notice" | sed '1s/$/\x01/' | scripts/story-to-svg; }
+no_end() { ./udsexplain "$notice" | head -c -1 | scripts/story-to-svg; }
+not_ended() { ./udsexplain "$notice" | sed '/^The call ends/d' | scripts/story-to-svg; }
 try "story-to-svg: a line that is none of a story" 1 "" "no line of a story: hoist" no_story
 try "story-to-svg: no story" 1 "" "there is no story" nothing
+try "story-to-svg: udslog's line" 1 "" "there is no story before" one_line
+try "story-to-svg: a log" 1 "" "story-to-svg: " binary
+try "story-to-svg: a story without its last line" 1 "" "this is none: The call ends at" no_last_line
+try "story-to-svg: a story without its first line" 1 "" "no line of a story: 20 ms" no_first_line
+try "story-to-svg: two stories" 1 "" "no line of a story: positive" two_stories
+try "story-to-svg: a control byte" 1 "" "control bytes" control
+try "story-to-svg: a last line that is cut" 1 "" "last line is cut" no_end
+try "story-to-svg: a story that does not say when the call ends" 1 "" "when the call ends" not_ended

@@ -117,4 +117,4 @@ try "run: no rt on the path, on Arm" 1 "" "no rt on the path" without_rt
 tidy() { mkdir "$room/tmp" && TMPDIR=$room/tmp ./udslog "$log" && ls -A "$room/tmp"; }
 no_folder() { TMPDIR=$room/none ./udslog "$log"; }
 try "udslog: no temporary file stays" 0 "$line" "" tidy
-try "udslog: no folder for temporary files" 1 "" "cannot make a temporary file" no_folder
+try "udslog: no folder for temporary files" 1 "" "cannot make a temporary folder" no_folder

@@ -1,7 +1,6 @@
 /* The client's end of the cable to ./udsbench (scripts/cable): a request goes out as a line of hex on standard output, and its answer comes in as a
  * line on standard input, the reply in hex or '-' for silence. Standard error says what each call learned: the hoist's count, its limit before and
  * after a write, how many faults are confirmed, a refusal, and silence that was asked for. */
-#include <inttypes.h>
 #include <stdio.h>
 #include <string.h>
 
@@ -83,7 +82,7 @@ static void learned(const char *name) {
         fprintf(stderr, "%s: silence, as asked for\n", name);
         break;
     case BINTROCHIS_OUTCOME_NEGATIVE:
-        fprintf(stderr, "%s: refused with code %02" PRIx64 "\n", name, answer.detail);
+        fprintf(stderr, "%s: refused with code %02x\n", name, (unsigned)answer.detail);
         break;
     default:
         fprintf(stderr, "%s: %s\n", name, bintrochis_outcome_word(answer.outcome));

@@ -2,7 +2,6 @@
  * each. In every cycle each state gets one call: an event if one is there, else a tick. The hoist says wait, and its count comes late, within
  * the longer time. The trolley says nothing, and a tick past its deadline settles that; the hoist's replies, which the channel brings to both,
  * are passed over. */
-#include <inttypes.h>
 #include <stdio.h>
 #include <string.h>
 
@@ -49,7 +48,7 @@ static bool begin(struct controller *c) {
     for (uint64_t i = 0; i < c->state.answer.request_length; i++) {
         printf(" %02x", c->request[i]);
     }
-    printf(", deadline %" PRIu64 " ms\n", c->state.answer.time);
+    printf(", deadline %llu ms\n", (unsigned long long)c->state.answer.time);
     return waits(c);
 }
 
@@ -62,7 +61,7 @@ static void decided(const struct controller *c, const uint8_t *replies) {
     } else {
         printf("%s", bintrochis_outcome_word(answer->outcome));
     }
-    printf(" at %" PRIu64 " ms, events %" PRIu64 ", notices %" PRIu64 "\n", answer->time, answer->events, answer->notices);
+    printf(" at %llu ms, events %u, notices %u\n", (unsigned long long)answer->time, (unsigned)answer->events, (unsigned)answer->notices);
 }
 
 /* Lends the request that was sent, and the message for this event alone. */
@@ -80,16 +79,16 @@ static bool cycle(struct controller *c, uint64_t now) {
     const struct message *m = c->heard < MESSAGES && channel[c->heard].time <= now ? &channel[c->heard++] : NULL;
     const uint8_t result = m ? heard(c, m) : bintrochis_tick(&c->state, now);
     if (result != BINTROCHIS_RESULT_DONE) {
-        printf("%s, cycle %" PRIu64 ": refused, %u\n", c->name, now, (unsigned)result);
+        printf("%s, cycle %llu: refused, %u\n", c->name, (unsigned long long)now, (unsigned)result);
         return false;
     }
     if (!waits(c)) {
-        printf("%s, cycle %" PRIu64 ": settled by %s, ", c->name, now, m ? "an event" : "a tick");
+        printf("%s, cycle %llu: settled by %s, ", c->name, (unsigned long long)now, m ? "an event" : "a tick");
         decided(c, m ? m->bytes : NULL);
     } else if (c->state.answer.time != deadline) {
-        printf("%s, cycle %" PRIu64 ": told to wait, deadline %" PRIu64 " ms\n", c->name, now, c->state.answer.time);
+        printf("%s, cycle %llu: told to wait, deadline %llu ms\n", c->name, (unsigned long long)now, (unsigned long long)c->state.answer.time);
     } else if (m) {
-        printf("%s, cycle %" PRIu64 ": passed over\n", c->name, now);
+        printf("%s, cycle %llu: passed over\n", c->name, (unsigned long long)now);
     }
     return true;
 }
@@ -102,7 +101,7 @@ static void refused(struct controller *c, const char *name, uint64_t now) {
 }
 
 int main(void) {
-    printf("a state has %zu bytes\n", sizeof controllers[0].state);
+    printf("a state has %u bytes\n", (unsigned)sizeof controllers[0].state);
     for (size_t i = 0; i < CONTROLLERS; i++) {
         if (!begin(&controllers[i])) {
             return 1;

@@ -1,5 +1,4 @@
 /* Reads the hoist's count, 16 bits, strict. The controller asks for patience first: 7F 22 78 is no result, and starts the longer clock. */
-#include <inttypes.h>
 #include <stdio.h>
 
 #include "bintrochis.h"
@@ -37,11 +36,11 @@ int main(void) {
         return 1;
     }
     if (answer.outcome != BINTROCHIS_OUTCOME_POSITIVE || answer.data_length != 2) {
-        printf("no count: %s at %" PRIu64 " ms\n", bintrochis_outcome_word(answer.outcome), answer.time);
+        printf("no count: %s at %llu ms\n", bintrochis_outcome_word(answer.outcome), (unsigned long long)answer.time);
         return 0;
     }
     const uint8_t *data = bintrochis_data(&lent, &answer);
-    printf("count %d at %" PRIu64 " ms, after %" PRIu64 " notice of %" PRIu64 " events\n", data[0] * 256 + data[1], answer.time,
-           answer.notices, answer.events);
+    printf("count %d at %llu ms, after %u notice of %u events\n", data[0] * 256 + data[1], (unsigned long long)answer.time,
+           (unsigned)answer.notices, (unsigned)answer.events);
     return 0;
 }

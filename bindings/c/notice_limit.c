@@ -1,6 +1,5 @@
 /* A controller that says wait without end, under limits of notices: the one after the K-th ends the call, with address and size as bytes and as
  * numbers. */
-#include <inttypes.h>
 #include <stdio.h>
 
 #include "bintrochis.h"
@@ -37,8 +36,8 @@ static bool say(const char *name, bool limited, uint8_t limit) {
         if (!asked(limited, limit, alfid, &answer)) {
             return false;
         }
-        printf("%s %s: %s at %" PRIu64 " ms, events %" PRIu64 ", notices %" PRIu64 "\n", alfid ? "alfid" : "bytes", name,
-               bintrochis_outcome_word(answer.outcome), answer.time, answer.events, answer.notices);
+        printf("%s %s: %s at %llu ms, events %u, notices %u\n", alfid ? "alfid" : "bytes", name, bintrochis_outcome_word(answer.outcome),
+               (unsigned long long)answer.time, (unsigned)answer.events, (unsigned)answer.notices);
     }
     return true;
 }

@@ -1,7 +1,6 @@
 /* replay LIST: the line of each log of a list, one made of what bintrochis_call answers to the log's fields and one by bintrochis_line. Prints the
  * first where both agree, and else both. In a list each log stands after its length as u32, big-endian. The tests compare with the lines that the
  * gate replays. */
-#include <inttypes.h>
 #include <stdio.h>
 #include <string.h>
 
@@ -25,8 +24,8 @@ static size_t put_hex(char *line, const uint8_t *bytes, uint64_t length) {
 
 /* The line of an answer, by docs/RULES.md, "Lines". */
 static size_t put_answer(char *line, const struct bintrochis_lent *lent, const struct bintrochis_answer *answer) {
-    size_t n = (size_t)sprintf(line, "%s %" PRIu64 " %" PRIu64 " %" PRIu64 " ", bintrochis_outcome_word(answer->outcome), answer->time,
-                               answer->events, answer->notices);
+    size_t n = (size_t)sprintf(line, "%s %llu %u %u ", bintrochis_outcome_word(answer->outcome), (unsigned long long)answer->time,
+                               (unsigned)answer->events, (unsigned)answer->notices);
     const size_t start = n;
     const uint8_t *reply = lent->replies + answer->reply_at;
     switch (answer->outcome) {
@@ -36,13 +35,13 @@ static size_t put_answer(char *line, const struct bintrochis_lent *lent, const s
     case BINTROCHIS_OUTCOME_NEGATIVE:
     case BINTROCHIS_OUTCOME_REFUSED:
     case BINTROCHIS_OUTCOME_DEVIATION:
-        n += (size_t)sprintf(line + n, "%02" PRIx64, answer->detail);
+        n += (size_t)sprintf(line + n, "%02x", (unsigned)answer->detail);
         if (answer->outcome == BINTROCHIS_OUTCOME_DEVIATION) {
             n += put_hex(line + n, reply, answer->reply_length);
         }
         break;
     case BINTROCHIS_OUTCOME_TRANSPORT:
-        n += (size_t)sprintf(line + n, "%04" PRIx64, answer->detail);
+        n += (size_t)sprintf(line + n, "%04x", (unsigned)answer->detail);
         break;
     case BINTROCHIS_OUTCOME_OVERFLOW:
         n += put_hex(line + n, reply, answer->reply_length);

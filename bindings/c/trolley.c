@@ -1,7 +1,6 @@
 /* Hoist and trolley answer on one channel, and a late count of the trolley's comes before the hoist's. Who listens to the hoist's address
  * hears the hoist alone, with bytes and with numbers: the trolley's reply is passed over, and counted among the events read. Without addresses it
  * stands as the hoist's. An address listened to, where events have none, asks no call. */
-#include <inttypes.h>
 #include <stdio.h>
 
 #include "bintrochis.h"
@@ -71,7 +70,7 @@ static void say(struct heard heard, bool alfid) {
     } else {
         printf("%s", bintrochis_outcome_word(answer.outcome));
     }
-    printf(" at %" PRIu64 " ms, events %" PRIu64 "\n", answer.time, answer.events);
+    printf(" at %llu ms, events %u\n", (unsigned long long)answer.time, (unsigned)answer.events);
 }
 
 int main(void) {

@@ -1,6 +1,6 @@
-//! Links the proved library, and says plainly what is missing. The archive is the one that BINTROCHIS_ARCHIVE names, or
-//! target/native/libbintrochis.a of the repository that this crate stands in; where that is not there, scripts/native-lib builds it,
-//! if the Rattle kit is there to do so.
+//! Links the proved library, and says plainly what is missing. The archive is the one that BINTROCHIS_ARCHIVE names, or that of the
+//! repository that this crate stands in, for the processor that is compiled for. If the Rattle kit is there, scripts/native-lib is asked
+//! for it, which builds it where it is missing or older than its sources.
 
 use std::path::{Path, PathBuf};
 use std::process::Command;
@@ -26,18 +26,35 @@ fn main() {
 }
 
 fn of_repository(top: &Path) -> PathBuf {
-    let archive = top.join("target/native/libbintrochis.a");
-    if archive.is_file() {
-        return archive;
-    }
     let script = top.join("scripts/native-lib");
     if !script.is_file() {
         missing("This crate does not stand in its repository, which would build the library.");
     }
-    if Command::new("rt").arg("version").output().is_err() {
-        missing("The library is not built yet, and there is no rt on the path, the Rattle kit, to build it.");
+    for source in ["crates", "crates.txt", "scripts/native-lib"] {
+        println!("cargo:rerun-if-changed={}", top.join(source).display());
     }
-    match Command::new(&script).status() {
+    let [host, target] = ["HOST", "TARGET"].map(|kind| std::env::var(kind).unwrap_or_default());
+    let processor = target.split('-').next().unwrap_or_default();
+    let (folder, words) = if host.split('-').next() == Some(processor) {
+        ("target/native".to_string(), vec![])
+    } else {
+        (
+            format!("target/native-{processor}"),
+            vec!["--for", processor],
+        )
+    };
+    let archive = top.join(folder).join("libbintrochis.a");
+    if Command::new("rt").arg("version").output().is_err() {
+        if !archive.is_file() {
+            missing("The library is not built yet, and there is no rt on the path, the Rattle kit, to build it.");
+        }
+        println!(
+            "cargo:warning=There is no rt on the path to ask whether {} is older than its sources.",
+            archive.display()
+        );
+        return archive;
+    }
+    match Command::new(&script).args(words).status() {
         Ok(status) if status.success() => archive,
         _ => missing("scripts/native-lib failed; run it by hand to see why."),
     }

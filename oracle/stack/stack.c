@@ -1,6 +1,8 @@
 /* stack LOGS: how much stack the proved library takes from each log of a file (each after its length as u32, big-endian) to its line; how much
  * one whole call takes, for each log whose numbers ask a call, and for the alfid forms of calls 5, 6, 11 and 12; and how much it takes to begin
- * each such call and to hand over its events and a tick, one at a time.
+ * each such call and to hand over its events and a tick, one at a time. Compiled with RUST, and linked with oracle/stack/rust, also how much a
+ * function of a host in Rust takes that does each of these through the bindings: its own frame, with the answer or the engine that it is given, and
+ * all that it stands on.
  *
  * A call runs on a stack of its own that was painted before; what it left unpainted is counted, once for each of two paints. What an
  * empty function takes in its place is subtracted. To be linked statically: a dynamic linker looks up the library's functions of C in the
@@ -77,6 +79,14 @@ static void begins_in_numbers(void) {
                                     5000, 0, UINT16_MAX, 0, arguments, argument_count, request, sizeof request, state);
 }
 
+#ifdef RUST
+bool rust_takes(const uint8_t *log, size_t length);
+void rust_answers(void);
+void rust_begins(void);
+void rust_hands_over(void);
+void rust_ticks(void);
+#endif
+
 static void enter(void) { body(); }
 
 static size_t taken_with(unsigned char paint) {
@@ -110,6 +120,11 @@ struct taken {
 };
 static struct taken calls = {.name = "calls with bytes"}, alfid_calls = {.name = "alfid forms"}, begun = {.name = "begun with bytes"},
                     alfid_begun = {.name = "begun in alfid forms"}, lines = {.name = "from log to line"}, handed = {.name = "events handed over"}, ticked = {.name = "ticks"};
+#ifdef RUST
+static struct taken rust_calls = {.name = "Rust, calls without memory"}, rust_memory = {.name = "Rust, calls with address and size in bytes"},
+                    rust_begun = {.name = "Rust, begun without memory"}, rust_handed = {.name = "Rust, events handed over"},
+                    rust_ticked = {.name = "Rust, ticks"};
+#endif
 
 static size_t empty; /* what an empty function takes */
 
@@ -186,6 +201,15 @@ int main(int count, char **words) {
         measure(&calls, in_bytes);
         if (result == BINTROCHIS_RESULT_DONE) {
             measure_steps(&begun, begins);
+#ifdef RUST
+            const bool plain = rust_takes(log, size);
+            measure(plain ? &rust_calls : &rust_memory, rust_answers);
+            if (plain) {
+                measure(&rust_begun, rust_begins);
+                measure(&rust_handed, rust_hands_over);
+                measure(&rust_ticked, rust_ticks);
+            }
+#endif
         }
     }
     fclose(file);
@@ -220,5 +244,12 @@ int main(int count, char **words) {
     say(&alfid_begun);
     say(&handed);
     say(&ticked);
+#ifdef RUST
+    say(&rust_calls);
+    say(&rust_memory);
+    say(&rust_begun);
+    say(&rust_handed);
+    say(&rust_ticked);
+#endif
     return 0;
 }

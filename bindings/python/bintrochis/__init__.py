@@ -13,15 +13,22 @@ CAN frames together. It is tested, and two files of it are to be read, this one 
 enough.
 """
 
+import collections.abc
 import dataclasses
 import enum
+import operator
 import struct
 
 from . import names
-from .door import DONE, NO_LIMIT, NUMBERS, STATE, VERSION, door, numbers
+from .door import DONE, NO_FAULT, NO_LIMIT, NUMBERS, STATE, VERSION, door, numbers
+
+__version__ = "%d.%d.%d" % (VERSION // 10000, VERSION // 100 % 100, VERSION % 100)
 
 LONGEST_REQUEST = 4095
 LONGEST_LINE = 8222
+MOST_EVENTS = 512
+MOST_REPLY_BYTES = 65535
+LATEST = 2**32 - 1
 
 STRICT, SERVER_TIMING, SUPPRESSED, OVERALL, SUB, DATA = 1, 2, 4, 8, 16, 32
 
@@ -36,7 +43,7 @@ class Outcome(enum.IntEnum):
     DEVIATION = 6  # strict: the reply breaks a rule
     LENGTH = 7  # lenient: the reply is too short to read
     OVERFLOW = 8
-    REFUSED = 9  # nothing to send
+    REFUSED = 9  # no request can be made, or the list of events breaks a limit
     PENDING_LIMIT = 10
 
     @property
@@ -59,6 +66,8 @@ REFUSALS = {
     11: "the block length is below 3",
     12: "there is no block of that number",
     13: "the buffer is too short for the reply",
+    16: "the time of a message goes back",
+    17: "there are more than 512 events, more than 65,535 bytes of replies, or a reply later than 4,294,967,295 ms",
     20: "earlier than the last step",
     21: "the call has settled",
 }
@@ -87,10 +96,10 @@ class BadLog(ValueError):
 
 
 class Refused(ValueError):
-    """A refusal, by its number."""
+    """A refusal, by its number; `of` says of what it is, where there are many."""
 
-    def __init__(self, number):
-        super().__init__("%s (refusal %d)" % (REFUSALS[number], number))
+    def __init__(self, number, of=""):
+        super().__init__("%s%s (refusal %d)" % (of and of + ": ", REFUSALS[number], number))
         self.number = number
 
 
@@ -163,19 +172,30 @@ class Answer:
     def text(self):
         """The outcome in words that a technician understands."""
         number = self.detail
+        name = code_name(number & 255)
         return {
             Outcome.POSITIVE: "the controller answered",
             Outcome.SUPPRESSED: "silence, as asked for",
-            Outcome.NEGATIVE: "the controller refused: %s (code %02x)" % (code_name(number & 255) or "no name", number),
+            Outcome.NEGATIVE: "the controller refused%s (code %02x)" % (name and ": " + name, number),
             Outcome.TIMEOUT: "no answer in time: waiting ended at %d ms" % self.time,
             Outcome.DISCONNECTED: "the connection ended before an answer came",
             Outcome.TRANSPORT: "the transport failed with its error %d" % number,
-            Outcome.DEVIATION: "the reply breaks rule %d: %s" % (number, DEVIATIONS.get(number, "")),
+            Outcome.DEVIATION: "the reply breaks rule %d: %s" % (number, self._length_words() if number == 8 else DEVIATIONS.get(number, "")),
             Outcome.LENGTH: "the reply is too short to read",
             Outcome.OVERFLOW: "the block length does not fit 64 bits",
-            Outcome.REFUSED: "nothing was sent: %s (refusal %d)" % (REFUSALS.get(number, ""), number),
+            Outcome.REFUSED: "%s: %s (refusal %d)"
+            % ("no judgement" if number == 10 else "there is nothing to send", REFUSALS.get(number, ""), number),
             Outcome.PENDING_LIMIT: "the controller asked to wait %d times, more than the limit" % self.notices,
         }[self.outcome]
+
+    def _length_words(self):
+        """Deviation 8 by its bounds. Those of call 15 do not say all: its reply also wants whole records."""
+        size = len(self.reply)
+        if size < self.least:
+            return "its length is %d, below %d" % (size, self.least)
+        if self.most is not None and size > self.most:
+            return "its length is %d, above %d" % (size, self.most)
+        return "its length is %d, not 3 plus a multiple of 4" % size
 
     @property
     def line(self):
@@ -213,14 +233,99 @@ class Answer:
 
     def faults(self, mask=0xFF):
         """Of call 15: the faults whose status shares a bit with the mask, as (code, status)."""
-        records = self.record()[1:]
-        count = door("bintrochis_door_faults", mask, records)
-        places = (door("bintrochis_door_fault", mask, records, k) for k in range(count))
-        return [(int.from_bytes(records[at : at + 3], "big"), records[at + 3]) for at in places]
+        found = []
+        rest = memoryview(bytearray(self.record()))[1:]
+        while (at := door("bintrochis_door_fault", mask, rest, 0)) != NO_FAULT:  # the first one behind the last one
+            found.append((int.from_bytes(rest[at : at + 3], "big"), rest[at + 3]))
+            rest = rest[at + 4 :]
+        return found
 
 
 def _bytes(said):
-    return bytes.fromhex(said) if isinstance(said, str) else bytes(said)
+    """Bytes as they are, as hex text, or as numbers 0 to 255 one by one. A number alone is no bytes: how many it has is not said."""
+    if isinstance(said, str):
+        return bytes.fromhex(said)
+    if isinstance(said, (bytes, bytearray)) or isinstance(said, memoryview) and said.itemsize == 1:
+        return bytes(said)
+    if not isinstance(said, collections.abc.Iterable) or isinstance(said, (collections.abc.Set, collections.abc.Mapping)):
+        raise TypeError("%r is no bytes: give bytes, hex text such as '0f a0', or a list of numbers 0 to 255" % (said,))
+    found = bytearray()
+    for number in said:
+        try:
+            number = operator.index(number)
+        except TypeError:
+            raise TypeError("%r is no byte: a list of bytes has numbers 0 to 255" % (number,)) from None
+        if not 0 <= number <= 255:
+            raise ValueError("%d is no byte: a list of bytes has numbers 0 to 255" % number)
+        found.append(number)
+    return bytes(found)
+
+
+def _memory(memory):
+    """A Memory, or address and size as bytes. Numbers need their widths."""
+    if isinstance(memory, Memory):
+        return memory
+    fields = () if isinstance(memory, (str, bytes, bytearray)) or not isinstance(memory, collections.abc.Iterable) else tuple(memory)
+    if len(fields) != 2 or any(isinstance(field, int) for field in fields):
+        raise TypeError(
+            "%r is no memory: give Memory(address, size, address_width, size_width) for numbers, or a pair of bytes or hex text" % (memory,)
+        )
+    return tuple(_bytes(field) for field in fields)
+
+
+def _identifier(said):
+    """A CAN identifier's number, and whether it has 29 bits: a number by its size, text by its digits, three or eight, as for `log2uds`."""
+    if isinstance(said, str):
+        if len(said) not in (3, 8) or not set(said) <= set("0123456789abcdefABCDEF"):
+            raise ValueError("%r is no identifier: three hex digits are one of 11 bits, eight are one of 29" % said)
+        number, extended = int(said, 16), len(said) == 8
+    else:
+        number = operator.index(said)
+        extended = number > 0x7FF
+    if not 0 <= number <= (0x1FFFFFFF if extended else 0x7FF):
+        raise ValueError("%r is no identifier of %d bits" % (said, 29 if extended else 11))
+    return number, extended
+
+
+def _addresses(ids):
+    """The address of each identifier: told by a mapping; 0 where there is one; the number of each of several."""
+    if isinstance(ids, collections.abc.Mapping):
+        told = {_identifier(said): operator.index(address) for said, address in ids.items()}
+        for address in told.values():
+            if not 0 <= address <= 65535:
+                raise ValueError("%d is no address: it has 16 bits" % address)
+    else:
+        alone = isinstance(ids, str) or not isinstance(ids, collections.abc.Iterable)
+        asked = dict.fromkeys(_identifier(said) for said in ((ids,) if alone else ids))
+        if len(asked) > 1 and any(extended for _, extended in asked):
+            raise ValueError("an identifier of 29 bits is no address: give ids as a mapping, such as {0x18DAF110: 0x10, 0x18DAF111: 0x11}")
+        told = {(number, extended): number if len(asked) > 1 else 0 for number, extended in asked}
+    if not told:
+        raise ValueError("ids: no identifier is asked for")
+    return told
+
+
+def _feed(under, frame):
+    """One frame more of an identifier, as crates/isotp joins them. `under` is the message under way, None or the bytes due, the next frame's
+    number and the bytes so far. Gives the one under way from now on, whether the one before is given up, and a whole message or None."""
+    kind, low = (frame[0] >> 4, frame[0] & 15) if frame else (0, 0)
+    if kind == 0 and 1 <= low <= 7 and low < len(frame):
+        return None, under is not None, frame[1 : 1 + low]
+    if kind == 1 and len(frame) == 8 and low << 8 | frame[1] >= 8:
+        return ((low << 8 | frame[1]) - 6, 1, frame[2:]), under is not None, None
+    if kind == 2 and under is not None:
+        due, number, heard = under
+        if low != number:
+            return None, True, None
+        part = frame[1 : 1 + min(7, due)]
+        if len(part) == min(7, due):
+            return (None, False, heard + part) if due <= 7 else ((due - 7, (number + 1) % 16, heard + part), False, None)
+    return under, False, None
+
+
+def _micros(seconds):
+    """A message's time in microseconds, which is what captures have."""
+    return round(seconds * 1_000_000)
 
 
 class Recording:
@@ -229,6 +334,9 @@ class Recording:
     def __init__(self):
         self.events = b""  # twelve bytes each, as in a log of version 2
         self.replies = b""
+        self.dropped = []  # messages at which `can` gave up a reply that was under way
+        self._sources = set()
+        self._frames = {}  # what `can` was asked for: identifier -> address
 
     def _heard(self, time, kind, offset=0, length=0, source=0):
         try:
@@ -241,6 +349,7 @@ class Recording:
         said = _bytes(said)
         self._heard(time, 0, len(self.replies), len(said), source)
         self.replies += said
+        self._sources.add(source)
         return self
 
     def idle(self, time):
@@ -252,40 +361,69 @@ class Recording:
     def error(self, time, number):
         return self._heard(time, 3, 0, number)
 
-    def can(self, messages, sent, ids=None):
-        """Replies in messages of python-can, put together from their frames (ISO 15765-2, normal addressing). `sent` is the request's
-        timestamp, in seconds. A reply has the time of its last frame, in milliseconds that are over, and its identifier as source.
-        Frames of other identifiers than `ids`, flow control, and a reply that is not whole are no reply."""
-        parts = {}  # identifier -> bytes wanted, bytes so far, next sequence number
-        for message in messages:
-            source, frame = message.arbitration_id, bytes(message.data)
-            if not frame or ids is not None and source not in ids:
+    def can(self, messages, sent, ids):
+        """Replies in messages of python-can, put together from their frames as `log2uds` does it (ISO 15765-2, normal addressing).
+
+        `sent` is the message of the request's last frame, or its timestamp in seconds. A reply has the time of its last frame: whole milliseconds
+        since `sent`, rounded down. What was whole before `sent` is passed over.
+
+        `ids` are the identifiers of the replies. A number up to 0x7FF is one of 11 bits, a larger one has 29; text says it by its digits, "7E8" or
+        "000007E8", and a message by `is_extended_id`. The replies of one identifier have address 0, which a call listens to where nothing else
+        is said. Of several, each has its number as address; a mapping from identifiers to addresses says others, and is needed for 29 bits.
+
+        Error, remote and CAN FD frames and frames of other identifiers are passed over, and channels are not looked at. `dropped` gets each message
+        at which a reply under way was given up. Refused where the time of any message goes back (16), or where a recording cannot hold the
+        replies (17); the recording is then as before."""
+        addresses = _addresses(ids)
+        for address in set(addresses.values()):
+            others = {key for key, at in self._frames.items() if at == address} - addresses.keys()
+            if others and not isinstance(ids, collections.abc.Mapping):
+                raise ValueError("address 0x%X has the replies of another identifier already: give ids as a mapping" % address)
+        start, place, last = _micros(getattr(sent, "timestamp", sent)), 0, None
+        under, dropped, found = dict.fromkeys(addresses), [], []
+        for count, message in enumerate(messages, 1):
+            time = _micros(message.timestamp)
+            if last is not None and time < last:
+                raise Refused(16, "message %d of the list" % count)
+            last = time
+            if message is sent:
+                place = count
+            if any(getattr(message, flag, False) for flag in ("is_error_frame", "is_remote_frame", "is_fd")):
                 continue
-            kind, low = frame[0] >> 4, frame[0] & 15
-            whole = None
-            if kind == 0:
-                parts.pop(source, None)
-                at, length = (2, frame[1]) if low == 0 and len(frame) > 8 else (1, low)
-                whole = frame[at : at + length] if 0 < length <= len(frame) - at else None
-            elif kind == 1 and len(frame) >= 3:
-                parts[source] = [low << 8 | frame[1], frame[2:], 1]
-            elif kind == 2 and source in parts:
-                wanted, heard, number = parts.pop(source)
-                if low == number % 16:
-                    heard += frame[1:]
-                    if len(heard) >= wanted:
-                        whole = heard[:wanted]
-                    else:
-                        parts[source] = [wanted, heard, number + 1]
-            if whole is not None:
-                micros = round((message.timestamp - sent) * 1_000_000)
-                self.reply(-(-micros // 1000), whole, source)
+            number = message.arbitration_id
+            key = number, bool(getattr(message, "is_extended_id", number > 0x7FF))
+            if key not in addresses or len(message.data) > 8:
+                continue
+            under[key], drops, whole = _feed(under[key], bytes(message.data))
+            if drops:
+                dropped.append(message)
+            if whole is not None and time >= start:
+                found.append((count, (time - start) // 1000, whole, addresses[key]))
+        found = [reply for count, *reply in found if count > place]
+        size = len(self.replies) + sum(len(whole) for _, whole, _ in found)
+        late = any(time > LATEST for time, _, _ in found)
+        if len(self.events) // 12 + len(found) > MOST_EVENTS or size > MOST_REPLY_BYTES or late:
+            raise Refused(17)
+        for time, whole, source in found:
+            self.reply(time, whole, source)
+        self.dropped += dropped
+        self._frames.update(addresses)
+        self._sources.update(addresses.values())
         return self
+
+    def _heard_at(self, listens):
+        """Frames were put together, and none of the identifiers has this address: silence would be nobody's."""
+        if self._frames and listens not in self._sources:
+            told = ", ".join("%0*X at 0x%X" % (8 if extended else 3, number, at) for (number, extended), at in self._frames.items())
+            raise ValueError(
+                "address 0x%X is listened to, and the identifiers have others: %s. One identifier alone has address 0, which needs no "
+                "listens; Config(listens=..) says which of several is listened to" % (listens, told)
+            )
 
 
 @dataclasses.dataclass(frozen=True)
 class Call:
-    """A call, by document 01's number; the functions below make one. `memory` is a Memory, or address and size as bytes."""
+    """A call, by its number in a log; the functions below make one. `memory` is a Memory, or address and size as bytes."""
 
     number: int
     value: int = 0
@@ -303,14 +441,17 @@ class Call:
     def _fields(self, config):
         flags = STRICT * config.strict + SERVER_TIMING * config.server_timing + SUPPRESSED * config.suppressed
         flags += OVERALL * (config.overall is not None) + SUB * (self.number == 0 and self.sub is not None) + DATA * (self.data is not None)
-        return _fields(self.number, flags, self.value, self.sub or 0, self.memory, config.wide, self.data or b"")
+        return _fields(self.number, flags, self.value, self.sub or 0, self.memory, config.wide, b"" if self.data is None else self.data)
 
     def _timing(self, config, session):
-        limit = NO_LIMIT if config.notice_limit is None else config.notice_limit
-        return session.p2, session.p2_star, config.overall or 0, limit
+        limit = config.notice_limit
+        if limit is not None and not 0 <= limit <= 255:
+            raise ValueError("notice_limit: %d is out of range, which is 0 to 255; None is no limit" % limit)
+        return session.p2, session.p2_star, config.overall or 0, NO_LIMIT if limit is None else limit
 
     def hear(self, heard, config=Config(), session=Session()):
         """The answer to what was heard. Without `listens`, address 0 is listened to, where Recording.reply puts replies."""
+        heard._heard_at(config.listens or 0)
         timing = (*self._timing(config, session), True, config.listens or 0)
         return _call(self._fields(config), timing, heard.events, heard.replies)
 
@@ -322,10 +463,10 @@ class Call:
 def _fields(number, flags, value, sub, memory, wide, data):
     """Which form of a function takes the call, its numbers, and its argument bytes."""
     if isinstance(memory, Memory):
-        return "_alfid", (number, flags, value, memory.address, memory.size, memory.address_width, memory.size_width, wide), data
+        return "_alfid", (number, flags, value, memory.address, memory.size, memory.address_width, memory.size_width, wide), _bytes(data)
     # a field of more than 16 bytes is refused as one of 16 is, and its length may not fit the door's byte
-    address, size = (_bytes(field)[:16] for field in memory)
-    return "", (number, flags, value, sub, len(address), len(size)), address + size + data
+    address, size = (field[:16] for field in _memory(memory))
+    return "", (number, flags, value, sub, len(address), len(size)), address + size + _bytes(data)
 
 
 def _call(fields, timing, events, replies):
@@ -426,11 +567,11 @@ def tester_present():
 
 
 def read_memory_by_address(memory):
-    return Call(5, memory=memory)
+    return Call(5, memory=_memory(memory))
 
 
 def write_memory_by_address(memory, data):
-    return Call(6, memory=memory, data=_bytes(data))
+    return Call(6, memory=_memory(memory), data=_bytes(data))
 
 
 def read_data_by_identifier(identifier):
@@ -450,11 +591,11 @@ def routine_control(control_type, identifier, data=None):
 
 
 def request_download(memory, compression=0, encryption=0):
-    return Call(11, compression << 8 | encryption, memory=memory)
+    return Call(11, _methods(compression, encryption), memory=_memory(memory))
 
 
 def request_upload(memory, compression=0, encryption=0):
-    return Call(12, compression << 8 | encryption, memory=memory)
+    return Call(12, _methods(compression, encryption), memory=_memory(memory))
 
 
 def transfer_data(counter, data=None):
@@ -473,14 +614,23 @@ def _given(data):
     return None if data is None else _bytes(data)
 
 
+def _methods(compression, encryption):
+    """Each has a byte; above 15 it is the library that refuses."""
+    for name, method in ("compression", compression), ("encryption", encryption):
+        if not 0 <= method <= 255:
+            raise ValueError("%s: %d is out of range" % (name, method))
+    return compression << 8 | encryption
+
+
 def line(log):
     """The line that `udslog` prints of a log, without its newline."""
     room = bytearray(LONGEST_LINE)
-    return room[: door("bintrochis_door_line", log, room)].decode("ascii").rstrip("\n")
+    return room[: door("bintrochis_door_line", _bytes(log), room)].decode("ascii").rstrip("\n")
 
 
 def log(log):
     """The answer that a log gives; BadLog where it is none."""
+    log = _bytes(log)
     if line(log).startswith("badlog"):
         raise BadLog("these bytes are no log")
     (version,) = struct.unpack_from(">H", log)
@@ -499,9 +649,9 @@ def log(log):
 
 def blocks(data, block_length):
     """The blocks of a download, as (counter, bytes), under the block length that call 11 returned."""
-    told = numbers(3)
-    found = []
-    while (refusal := door("bintrochis_door_block", data, block_length, len(found), told)) == DONE:
+    data, told = _bytes(data), numbers(3)
+    lent, found = memoryview(bytearray(data)), []
+    while (refusal := door("bintrochis_door_block", lent, block_length, len(found), told)) == DONE:
         counter, at, length = told
         found.append((counter, data[at : at + length]))
     if refusal != 12:

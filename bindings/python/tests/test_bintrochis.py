@@ -1,36 +1,28 @@
 """The module against the gate's lists of logs, and what it adds: numbers tested, enums, recordings, CAN frames put together."""
 
+import array
 import dataclasses
 import doctest
 import pathlib
 import struct
+import subprocess
 import sys
 import unittest
+from types import SimpleNamespace
+from unittest import mock
 
 HERE = pathlib.Path(__file__).resolve()
-sys.path.insert(0, str(HERE.parents[1]))
+sys.path[:0] = [str(HERE.parents[1]), str(HERE.parent)]
 
 import bintrochis as uds  # noqa: E402
 from bintrochis import Answer, Config, Memory, Outcome, Recording, Session  # noqa: E402
 from bintrochis.door import door, numbers  # noqa: E402
+from messages import SKIPPED, STAND_IN, Message  # noqa: E402
 
 DATA = HERE.parents[3] / "crates/replay/data"
 READ = uds.read_data_by_identifier(0x2101)
 COUNT = "62 21 01 03 e8"
 GOOD = Memory(0x2000, 4, 2, 1)
-
-try:
-    from can import Message
-except ImportError:
-
-    @dataclasses.dataclass
-    class Message:
-        """What the module uses of a message of python-can, which is not there."""
-
-        timestamp: float
-        arbitration_id: int
-        data: bytes
-
 
 def cases(name):
     """The cases of a list, each with its line."""
@@ -120,12 +112,71 @@ class Calls(unittest.TestCase):
         falling = READ.hear(Recording().idle(2).idle(1))
         self.assertEqual((falling.outcome, falling.detail), (Outcome.REFUSED, 10))
 
+    def test_what_is_no_data(self):
+        """A number would be that many zeros: the load limit of a crane overwritten."""
+        takers = [
+            lambda data: uds.write_data_by_identifier(0x2102, data),
+            lambda data: uds.write_memory_by_address(GOOD, data),
+            lambda data: Recording().reply(0, data),
+            lambda data: READ.begin().reply(0, data),
+            lambda data: uds.respond(bytearray(), data),
+            lambda data: uds.blocks(data, 10),
+            uds.line,
+            uds.log,
+        ]
+        perhaps = [  # None is no data here
+            lambda data: uds.Call(8, 0x2102, data=data).request(),
+            lambda data: uds.request(0x3F, data=data),
+            lambda data: uds.security_access(2, data),
+            lambda data: uds.routine_control(1, 0x0203, data),
+            lambda data: uds.transfer_data(1, data),
+            uds.request_transfer_exit,
+        ]
+        for said in 4, True, False, 0, -1, 1 << 40, 1.5, object(), {1: 2}, {1, 2}, None:
+            for take in takers + perhaps * (said is not None):
+                self.assertRaisesRegex(TypeError, "is no bytes", take, said)
+        for said in ["0f"], [1.0], [None], [b"a"]:
+            self.assertRaisesRegex(TypeError, "is no byte", uds.write_data_by_identifier, 0x2102, said)
+        for said in [256], [-1], [1, 1 << 80], memoryview(array.array("H", [0x1234])):
+            self.assertRaisesRegex(ValueError, "is no byte", uds.write_data_by_identifier, 0x2102, said)
+        self.assertRaises(ValueError, uds.write_data_by_identifier, 0x2102, "4")
+        good = b"\x0f\xa0"
+        two_bytes_each = array.array("H", [15, 160])
+        for said in good, bytearray(good), memoryview(good), "0fa0", "0F A0", [15, 160], (15, 160), iter(good), two_bytes_each:
+            self.assertEqual(uds.write_data_by_identifier(0x2102, said).request().hex(), "2e21020fa0")
+        self.assertEqual(uds.write_data_by_identifier(0x2102, b"").request().hex(), "2e2102")
+
+    def test_memory_as_numbers_needs_widths(self):
+        numbers = (0x20004000, 4), (1 << 40, 4), (b"\x20", 4), [True, b"\4"], 0x2000, None
+        for memory in *numbers, "2000", b"\x20\0", (b"\x20",), (b"\1", b"\2", b"\3"):
+            for call in (
+                lambda: uds.read_memory_by_address(memory),
+                lambda: uds.write_memory_by_address(memory, "00"),
+                lambda: uds.request_download(memory),
+                lambda: uds.request_upload(memory),
+                lambda: uds.Call(5, memory=memory).request(),
+            ):
+                self.assertRaisesRegex(TypeError, r"Memory\(address, size, address_width, size_width\)", call)
+        self.assertEqual(uds.read_memory_by_address(Memory(0x20004000, 4, 4, 1)).request().hex(), "23142000400004")
+
+    def test_methods(self):
+        for ask in uds.request_download, uds.request_upload:
+            for name, method in ("encryption", 256), ("encryption", 65536), ("encryption", -1), ("compression", 256), ("compression", -1):
+                with self.assertRaisesRegex(ValueError, "%s: .* is out of range" % name):
+                    ask(GOOD, **{name: method})
+            for methods, number in ({"compression": 16}, 4), ({"encryption": 16}, 5), ({"compression": 255}, 4), ({"encryption": 255}, 5):
+                with self.assertRaises(uds.Refused) as refused:
+                    ask(GOOD, **methods).request()
+                self.assertEqual(refused.exception.number, number)
+
     def test_misuse(self):
         self.assertRaises(uds.Misuse, uds.Call(16).request)
         self.assertRaises(uds.Misuse, uds.Call(7, 0x2101, data=b"").request)
         self.assertRaises(uds.Misuse, uds.Call(7, 0x2101, memory=GOOD).request)
         self.assertRaises(uds.Misuse, uds.transfer_data(256).request)
-        self.assertRaises(uds.Misuse, READ.request, Config(notice_limit=256))
+        for limit in 256, 65534, 65535, -1:  # 65535 is how the library is told that there is none
+            self.assertRaisesRegex(ValueError, "notice_limit: .* out of range", READ.request, Config(notice_limit=limit))
+            self.assertRaisesRegex(ValueError, "notice_limit: .* out of range", READ.begin, Config(notice_limit=limit))
         for call, config in (
             (uds.read_data_by_identifier(65536), Config()),
             (uds.ecu_reset(256), Config()),
@@ -187,6 +238,61 @@ class Answers(unittest.TestCase):
         quiet = uds.tester_present().hear(Recording(), Config(suppressed=True))
         self.assertEqual((quiet.line, quiet.text), ("suppressed 50 0 0 -", "silence, as asked for"))
 
+    def test_words_of_a_length(self):
+        """Rule 8 by its bounds, and call 15's first check, whose bounds a wrong length may keep."""
+        faults = uds.read_dtc_information_dtc_by_status_mask(9)
+        for call, said, bounds, words in (
+            (READ, "", (1, None), "its length is 0, below 1"),
+            (READ, "7f 22", (3, 3), "its length is 2, below 3"),
+            (READ, "7f 22 31 00", (3, 3), "its length is 4, above 3"),
+            (READ, "62 21 01", (4, None), "its length is 3, below 4"),
+            (uds.diagnostic_session_control(3), "50 03 00 19 01 f4 00", (6, 6), "its length is 7, above 6"),
+            (faults, "59", (2, None), "its length is 1, below 2"),
+            (faults, "59 02", (3, None), "its length is 2, below 3"),
+            (faults, "59 02 ff 01 02 03", (3, None), "its length is 6, not 3 plus a multiple of 4"),
+        ):
+            answer = call.hear(Recording().reply(5, said))
+            self.assertEqual((answer.detail, answer.least, answer.most), (8, *bounds))
+            self.assertEqual(answer.text, "the reply breaks rule 8: " + words)
+
+    def test_words_of_every_log(self):
+        """What is said of a length is so in each case of the gate's lists, and nobody hears that nothing was sent who sent something."""
+        lengths = refusals = 0
+        for name in "logs", "listings", "addressed":
+            for log, expected in cases(name):
+                if expected.startswith("deviation") and expected.split()[4].startswith("08"):
+                    answer = uds.log(log)
+                    size = len(answer.reply)
+                    lengths += 1
+                    if size < answer.least:
+                        self.assertIn("%d, below %d" % (size, answer.least), answer.text)
+                    elif answer.most is not None:
+                        self.assertGreater(size, answer.most)
+                        self.assertIn("%d, above %d" % (size, answer.most), answer.text)
+                    else:
+                        self.assertEqual((answer.request[0], answer.request[1] & 0x7F), (0x19, 2))
+                        self.assertNotEqual(size % 4, 3)
+                        self.assertIn("%d, not 3 plus a multiple of 4" % size, answer.text)
+                elif expected.startswith("refused"):
+                    answer = uds.log(log)
+                    refusals += 1
+                    self.assertEqual("nothing to send" in answer.text, answer.detail != 10)
+        self.assertGreater(lengths, 100)
+        self.assertGreater(refusals, 100)
+
+    def test_words_of_refusals(self):
+        key = uds.security_access(2)
+        for answer in key.hear(Recording()), key.begin().answer:
+            self.assertEqual(answer.text, "there is nothing to send: a key is to be sent, and there is no data (refusal 1)")
+        self.assertEqual(READ.hear(Recording().idle(2).idle(1)).text, "no judgement: the list of events breaks a limit (refusal 10)")
+        engine = READ.begin()
+        self.assertIsNone(engine.idle(30))
+        for step in lambda: engine.idle(29), lambda: engine.reply(40, bytes(4096)), lambda: engine.tick(29):
+            with self.assertRaises(uds.Refused) as refused:
+                step()
+            self.assertNotRegex(str(refused.exception), "sent|send")
+        self.assertEqual(READ.hear(Recording().reply(5, "7f 22 92")).text, "the controller refused (code 92)")
+
     def test_session(self):
         granted = Recording().reply(5, "50 03 00 19 01 f4")
         answer = uds.diagnostic_session_control(3).hear(granted)
@@ -209,6 +315,27 @@ class Answers(unittest.TestCase):
         self.assertEqual(len(answer.faults()), 3)
         download = uds.request_download(GOOD).hear(Recording().reply(5, "74 20 0f fa"))
         self.assertEqual(download.block_length, 4090)
+
+    def test_faults_are_asked_for_behind_the_last_one(self):
+        """The library is handed each record once, however many there are: what it looks at and what is copied for it grows with the list."""
+        for count in 1, 10, 1000:
+            answer = dataclasses.replace(READ.hear(Recording().reply(5, COUNT)), data=b"\xff" + b"\1\2\3\x08" * count)
+            looked = copied = 0
+
+            def counting(name, mask, records, *k):
+                nonlocal looked, copied
+                place = door(name, mask, records, *k)
+                looked += min(place + 4, len(records)) if k else len(records)
+                copied += len(records) if isinstance(records, bytes) else 0
+                return place
+
+            with mock.patch.object(uds, "door", counting):
+                self.assertEqual(answer.faults(8), [(0x010203, 8)] * count)
+            self.assertLessEqual(looked + copied, 3 * 4 * count)
+        broken = dataclasses.replace(answer, data=b"\xff" + b"\1\2\3\x08" + b"\1\2\3\4" + b"\4\5\6\x08" + b"\7\7\7")
+        self.assertEqual(broken.faults(8), [(0x010203, 8), (0x040506, 8)])
+        self.assertEqual(broken.faults(0), [])
+        self.assertEqual(dataclasses.replace(answer, data=b"").faults(), [])
 
     def test_addresses(self):
         heard = Recording().reply(8, "62 21 01 07 d0", 0x7E9).reply(15, COUNT, 0x7E8)
@@ -254,51 +381,102 @@ class Steps(unittest.TestCase):
 
 
 class Frames(unittest.TestCase):
+    """What test_captures.py, which has the joining, does not have: sources, identifiers, and what is refused."""
+
     def frames(self, *said):
-        return [Message(timestamp=1000 + ms / 1000, arbitration_id=source, data=bytes.fromhex(frame)) for ms, source, frame in said]
+        return [
+            Message(timestamp=1000 + ms / 1000, arbitration_id=source, is_extended_id=source > 0x7FF, data=bytes.fromhex(frame))
+            for ms, source, frame in said
+        ]
 
     def test_single_and_many(self):
-        heard = Recording().can(
-            self.frames(
-                (0, 0x7E0, "03 22 f1 90"),
-                (20, 0x7E8, "03 7f 22 78 aa aa aa aa"),
-                (30, 0x7E8, "10 09 62 21 01 00 01 02"),
-                (30.2, 0x7E0, "30 00 00"),
-                (31.4, 0x7E8, "21 03 04 05 aa"),
-            ),
-            sent=1000.0,
-            ids={0x7E8},
+        frames = self.frames(
+            (0, 0x7E0, "03 22 f1 90"),
+            (20, 0x7E8, "03 7f 22 78 aa aa aa aa"),
+            (30, 0x7E8, "10 09 62 21 01 00 01 02"),
+            (30.2, 0x7E0, "30 00 00"),
+            (31.4, 0x7E8, "21 03 04 05 aa"),
         )
-        answer = READ.hear(heard, Config(listens=0x7E8))
-        self.assertEqual((answer.record().hex(), answer.time, answer.notices), ("000102030405", 32, 1))
+        for ids in 0x7E8, {0x7E8}, [0x7E8], "7E8", "7e8", {0x7E8: 0}:
+            for sent in 1000.0, 1000, frames[0]:
+                answer = READ.hear(Recording().can(frames, sent, ids))
+                self.assertEqual((answer.record().hex(), answer.time, answer.notices), ("000102030405", 31, 1))
+        self.assertRaises(TypeError, Recording().can, frames, 1000.0)
 
-    def test_what_is_no_reply(self):
-        for frames in (
-            [(5, 0x7E8, "")],
-            [(5, 0x7E8, "00")],
-            [(5, 0x7E8, "06 62 21 01")],
-            [(5, 0x7E8, "10")],
-            [(5, 0x7E8, "21 01 02")],
-            [(5, 0x7E8, "10 09 62 21 01 00 01 02"), (6, 0x7E8, "22 03 04 05")],
-            [(5, 0x7E8, "10 09 62 21 01 00 01 02"), (6, 0x7E8, "22 03 04 05"), (7, 0x7E8, "21 03 04 05")],
-            [(5, 0x7E9, "02 7e 00")],
-        ):
-            self.assertEqual(Recording().can(self.frames(*frames), 1000.0, {0x7E8}).events, b"", frames)
+    def test_a_forgotten_address_is_never_silence(self):
+        """One identifier has address 0; of several the call must say which one it listens to."""
+        frames = self.frames((5, 0x7E8, "05 62 21 01 03 e8"), (6, 0x7E9, "05 62 21 01 07 d0"), (7, 0x18DAF110, "05 62 21 01 0b b8"))
+        alone = Recording().can(frames, 1000.0, {0x7E8})
+        self.assertEqual(READ.hear(alone).u16(), 1000)
+        self.assertRaisesRegex(ValueError, "address 0x7E8 is listened to.* 7E8 at 0x0", READ.hear, alone, Config(listens=0x7E8))
+        self.assertRaisesRegex(ValueError, "another identifier already", alone.can, frames, 1000.0, {0x7E9})
+        self.assertEqual(len(alone.events), 12)
+        several = Recording().can(frames, 1000.0, {0x7E8, 0x7E9})
+        self.assertEqual(READ.hear(several, Config(listens=0x7E8)).u16(), 1000)
+        self.assertEqual(READ.hear(several, Config(listens=0x7E9)).u16(), 2000)
+        for wrong in Config(), Config(listens=0x7EA):
+            self.assertRaisesRegex(ValueError, "is listened to", READ.hear, several, wrong)
+        told = Recording().can(frames, 1000.0, {0x7E8: 1, "7E9": 2, 0x18DAF110: 3})
+        self.assertEqual([READ.hear(told, Config(listens=k)).u16() for k in (1, 2, 3)], [1000, 2000, 3000])
+        silent = Recording().can(frames[:0], 1000.0, {0x7E8: 1})
+        self.assertEqual(READ.hear(silent, Config(listens=1)).outcome, Outcome.TIMEOUT)
+        self.assertRaisesRegex(ValueError, "is listened to", READ.hear, silent)
+        self.assertEqual(READ.hear(Recording().can(frames, 1000.0, 0x18DAF110)).u16(), 3000)
 
-    def test_a_long_reply_and_the_time(self):
-        rest = bytes(range(62 * 7 % 256))
-        data = bytes([0x62, 0x21, 0x01]) + rest
-        frames = [(1, 0x7E8, (struct.pack(">H", 0x1000 | len(data)) + data[:6]).hex())]
-        for k, at in enumerate(range(6, len(data), 7), 1):
-            frames.append((1 + k, 0x7E8, (bytes([0x20 | k % 16]) + data[at : at + 7]).hex()))
-        heard = Recording().can(self.frames(*frames), 1000.0)
-        self.assertEqual(READ.hear(heard, Config(listens=0x7E8)).record(), rest)
-        for ms, time in (50, 50), (50.4, 51), (49.9996, 50):
-            (at,) = struct.unpack_from(">I", Recording().can(self.frames((ms, 1, "01 7e")), 1000.0).events)
-            self.assertEqual(at, time)
+    def test_identifiers(self):
+        for ids in [], {}, -1, 0x20000000, "7E", "800", "20000000", "0x7", " 7E8", "", [0x7E8, "+7E"]:
+            self.assertRaisesRegex(ValueError, "no identifier", Recording().can, [], 0.0, ids)
+        for address in 65536, -1:
+            self.assertRaisesRegex(ValueError, "no address", Recording().can, [], 0.0, {0x7E8: address})
+        self.assertRaisesRegex(ValueError, "mapping", Recording().can, [], 0.0, {0x7E8, 0x18DAF110})
+        narrow, wide = self.frames((5, 0x7E8, "05 62 21 01 03 e8"), (6, 0x7E8, "05 62 21 01 07 d0"))
+        wide.is_extended_id = True
+        self.assertEqual(READ.hear(Recording().can([narrow, wide], 1000.0, "7E8")).u16(), 1000)
+        self.assertEqual(READ.hear(Recording().can([narrow, wide], 1000.0, "000007E8")).u16(), 2000)
+
+    def test_refused_and_as_before(self):
+        heard = Recording().reply(1, COUNT)
+        before = heard.events, heard.replies, list(heard.dropped)
+        back = self.frames((5, 0x7E8, "02 7e 00"), (4, 0x123, "00"))
+        many = self.frames(*((5, 0x7E8, "02 7e 00") for _ in range(512)))
+        for frames, number, words in (back, 16, "message 2 of the list: the time of a message goes back"), (many, 17, "more than 512 events"):
+            with self.assertRaises(uds.Refused) as refused:
+                heard.can(frames, 1000.0, 0x7E8)
+            self.assertEqual(refused.exception.number, number)
+            self.assertIn(words, str(refused.exception))
+            self.assertEqual((heard.events, heard.replies, heard.dropped), before)
+        self.assertEqual(len(heard.can(many[1:], 1000.0, 0x7E8).events), 512 * 12)
+
+    def test_what_is_no_frame_of_classic_can(self):
+        def frame(data, **more):
+            return SimpleNamespace(timestamp=1000.005, arbitration_id=0x7E8, data=bytes.fromhex(data), **more)
+
+        self.assertEqual(len(Recording().can([frame("02 7e 00")], 1000.0, 0x7E8).events), 12)  # without flags it is one, of 11 bits
+        for flag in "is_error_frame", "is_remote_frame", "is_fd", "is_extended_id":
+            self.assertEqual(Recording().can([frame("02 7e 00", **{flag: True})], 1000.0, 0x7E8).events, b"", flag)
+        long = [frame("10 09 62 21 01 00 01 02 03"), frame("21 03 04 05")]
+        self.assertEqual(Recording().can(long, 1000.0, 0x7E8).events, b"")
 
 
 class Beside(unittest.TestCase):
+    def test_lengths_have_64_bits_everywhere(self):
+        """The library's lengths do, also where size_t has 32: a module that is loaded under such a size_t has no type of it."""
+        code = (
+            "import ctypes; ctypes.c_size_t = ctypes.c_uint32\n"
+            "from bintrochis.door import _door\n"
+            "sizes = {name: [ctypes.sizeof(kind) for kind in function.argtypes] for name, (function, _) in _door.items()}\n"
+            "for name, (function, _) in _door.items():\n"
+            "    for kind, size in zip(function.argtypes, sizes[name][1:]):\n"
+            "        assert kind is not ctypes.c_void_p or size == 8, name\n"
+            "assert sizes['bintrochis_door_fault'][3] == 8 and sizes['bintrochis_door_call_alfid'][3:7] == [8] * 4\n"
+            "for name in 'line', 'faults', 'fault':\n"
+            "    assert ctypes.sizeof(_door['bintrochis_door_' + name][0].restype) == 8, name\n"
+        )
+        subprocess.run([sys.executable, "-c", code], cwd=HERE.parents[1], check=True)
+
+    def test_version(self):
+        self.assertEqual(uds.__version__, "0.2.0")
+
     def test_the_modules_own_example(self):
         self.assertEqual(doctest.testmod(uds), (0, 4))
 
@@ -331,6 +509,6 @@ def hex_file(name):
 
 
 if __name__ == "__main__":
-    if Message.__module__ == "__main__":
-        print("skipped: messages of python-can itself, since it is not there; a stand-in has the same fields.")
+    if STAND_IN:
+        print(SKIPPED)
     unittest.main()

@@ -38,20 +38,26 @@ impl Transport for Cable {
             source: 0,
         })
     }
+
+    /// Nobody speaks on this cable unasked, and it has no clock.
+    fn wait(&mut self, _until: u64, _buffer: &mut [u8]) -> io::Result<()> {
+        Ok(())
+    }
 }
 
 fn learned(name: &str, response: Result<Response<'_>, Failure<io::Error>>) -> io::Result<()> {
     match response {
-        Ok(Response::Positive(record)) => {
+        Ok(Response::Positive { record, .. }) => {
             let bytes: String = record.0.iter().map(|byte| format!(" {byte:02x}")).collect();
             eprintln!("{name}{bytes}");
         }
-        Ok(Response::Suppressed) => eprintln!("{name}: silence, as asked for"),
-        Err(Failure::Call(Error::Negative(code))) => {
-            eprintln!("{name}: refused with code {:02x}", code.0)
-        }
-        Err(Failure::Call(error)) => eprintln!("{name}: {error}"),
+        Ok(Response::Suppressed { .. }) => eprintln!("{name}: silence, as asked for"),
+        Err(Failure::Call {
+            error: Error::Negative(code),
+            ..
+        }) => eprintln!("{name}: refused with code {:02x}", code.0),
         Err(Failure::Transport(error)) => return Err(error),
+        Err(failure) => eprintln!("{name}: {failure}"),
     }
     Ok(())
 }

@@ -1,6 +1,10 @@
-//! The live loop, written once: a request is sent, and what comes is handed over one event at a time until the call has settled.
+//! The live loop, written once: a request is sent, and what comes is handed over one event at a time until the call has settled; then the
+//! client waits until its finishing time.
 
-use crate::{Asked, Call, Config, Error, Event, Response, Session, LONGEST_REPLY, LONGEST_REQUEST};
+use crate::{
+    Asked, Call, Config, Error, Event, Response, Session, StepRefusal, LONGEST_REPLY,
+    LONGEST_REQUEST,
+};
 use core::fmt;
 
 /// What a transport heard.
@@ -28,19 +32,45 @@ pub trait Transport {
 
     /// Waits for a message up to and at `until`, in milliseconds since sending, and puts it at the front of `buffer`. Times never fall.
     fn receive(&mut self, until: u64, buffer: &mut [u8]) -> Result<Heard, Self::Error>;
+
+    /// Waits until it is `until`, in milliseconds since sending, or the stream ends: the call has settled, and the next request may leave
+    /// then. What comes meanwhile answers no call and is dropped; a transport that is to keep it, or that has a clock to sleep by, does
+    /// this in its own way.
+    fn wait(&mut self, until: u64, buffer: &mut [u8]) -> Result<(), Self::Error> {
+        loop {
+            match self.receive(until, buffer)? {
+                Heard::Message { time, .. } if u64::from(time) < until => {}
+                _ => return Ok(()),
+            }
+        }
+    }
 }
 
-/// Why there is no response: the call's own error, or the transport's.
+/// Why there is no response.
 #[derive(Debug, Clone, Copy, PartialEq, Eq)]
 pub enum Failure<E> {
-    Call(Error),
+    /// The call's own error, and its finishing time, in milliseconds since sending. A call that is refused sent nothing, and its time is 0.
+    Call { error: Error, time: u64 },
+    /// The request was sent, and what the transport then said cannot be taken: a message of the controller with more than 4,095
+    /// bytes, what comes behind its 512th, or a time before an earlier one. The client gave the call up; how it would have ended is
+    /// not known.
+    Step(StepRefusal),
+    /// The transport's.
     Transport(E),
 }
 
 impl<E: fmt::Display> fmt::Display for Failure<E> {
     fn fmt(&self, f: &mut fmt::Formatter<'_>) -> fmt::Result {
         match self {
-            Failure::Call(error) => error.fmt(f),
+            Failure::Call { error, .. } => {
+                if matches!(error, Error::Refused(_)) {
+                    f.write_str("nothing was sent: ")?;
+                }
+                error.fmt(f)
+            }
+            Failure::Step(refusal) => {
+                write!(f, "given up after the request was sent: {refusal}")
+            }
             Failure::Transport(error) => error.fmt(f),
         }
     }
@@ -80,9 +110,10 @@ impl<E: fmt::Debug + fmt::Display> core::error::Error for Failure<E> {}
 ///
 /// let mut client = Client::new(Hoist(0), Config::default());
 /// let count = Call::ReadDataByIdentifier { identifier: 0x2101 };
-/// assert_eq!(client.call(&count)?.record().and_then(|record| record.u16()), Ok(1000));
+/// let response = client.call(&count)?;
+/// assert_eq!((response.record().and_then(|record| record.u16()), response.time()), (Ok(1000), 900));
 /// // Now the drive is silent.
-/// assert_eq!(client.call(&count), Err(Failure::Call(Error::Timeout(50))));
+/// assert_eq!(client.call(&count), Err(Failure::Call { error: Error::Timeout(50), time: 50 }));
 /// # Ok::<(), bintrochis::Failure<std::convert::Infallible>>(())
 /// ```
 #[derive(Debug)]
@@ -105,22 +136,33 @@ impl<T: Transport> Client<T> {
         }
     }
 
-    /// Makes a call, and waits until it has settled. Messages that were on their way when an earlier call settled are the transport's to
-    /// drop or to hand over. An event that breaks a limit ends the call with refusal 10.
+    /// Makes a call, and comes back at its finishing time, when the next request may leave: under suppression an answer that comes
+    /// before P2 is over is held back until then. Messages that were on their way when an earlier call settled are the transport's to
+    /// drop or to hand over.
+    ///
+    /// A message of another address than the one listened to is passed over here. It would alter nothing but the count of events
+    /// read, which is proved (README.md, "Hoist and trolley on one channel"); but the 513th event is refused, and so another
+    /// controller that talks much would end this call.
     pub fn call(&mut self, call: &Call<'_>) -> Result<Response<'_>, Failure<T::Error>> {
         let asked = Asked::new(call, &self.config);
         let mut engine = asked.begin(self.session, &mut self.request);
         if let Some(refused) = engine.settled(&[]) {
-            return refused.response().map_err(Failure::Call);
+            return refused
+                .response()
+                .map_err(|error| Failure::Call { error, time: 0 });
         }
         self.transport
             .send(engine.request())
             .map_err(Failure::Transport)?;
         let overall = self.config.overall.map_or(u64::MAX, u64::from);
+        let listens = self.config.listens.unwrap_or(0);
         while let Some(deadline) = engine.deadline() {
             let until = deadline.min(overall);
             let heard = self.transport.receive(until, &mut self.reply);
             let refused = match heard.map_err(Failure::Transport)? {
+                Heard::Message { time, source, .. } if source != listens => {
+                    engine.tick(time.into()).err()
+                }
                 Heard::Message {
                     time,
                     length,
@@ -135,14 +177,19 @@ impl<T: Transport> Client<T> {
                 Heard::Nothing => engine.tick(until + 1).err(),
             };
             if let Some(refusal) = refused {
-                let refusal = crate::Refusal(refusal.number());
-                return Err(Failure::Call(Error::Refused(refusal)));
+                return Err(Failure::Step(refusal));
             }
         }
         self.session = engine.session();
-        let answer = engine
-            .settled(&self.reply)
-            .expect("the reply that settled the call stands in the buffer still");
-        answer.response().map_err(Failure::Call)
+        let (last, answer) = (engine.last(), engine.settled(&self.reply));
+        let answer = answer.expect("the reply that settled the call stands in the buffer still");
+        let (response, time) = (answer.response(), answer.time);
+        if last < time {
+            // the request was sent, and its bytes are free
+            self.transport
+                .wait(time, &mut self.request)
+                .map_err(Failure::Transport)?;
+        }
+        response.map_err(|error| Failure::Call { error, time })
     }
 }

@@ -37,8 +37,7 @@ pub const LAST: usize = 15;
 
 /// What a function returns where the numbers ask a call.
 pub const DONE: u8 = 0;
-
-// A slice of the proved library is a pointer and a length.
+// A slice of the proved library is a pointer and a length, which has 64 bits on every processor, also where `usize` has 32.
 #[rustfmt::skip]
 extern "C" {
     fn bintrochis_version() -> u32;
@@ -46,36 +45,36 @@ extern "C" {
     fn bintrochis_door_call(
         call: u8, flags: u8, value: u16, sub: u8, address_length: u8, size_length: u8,
         p2: u32, p2_star: u32, overall: u32, limit: u16, addressed: bool, listens: u16,
-        arguments: *const u8, arguments_length: usize, request: *mut u8, request_length: usize,
-        events: *const u8, events_length: usize, replies: *const u8, replies_length: usize, answer: *mut u64,
+        arguments: *const u8, arguments_length: u64, request: *mut u8, request_length: u64,
+        events: *const u8, events_length: u64, replies: *const u8, replies_length: u64, answer: *mut u64,
     ) -> u8;
     fn bintrochis_door_call_alfid(
-        call: u8, flags: u8, value: u16, address: u64, size: u64, address_width: usize, size_width: usize, wide: bool,
+        call: u8, flags: u8, value: u16, address: u64, size: u64, address_width: u64, size_width: u64, wide: bool,
         p2: u32, p2_star: u32, overall: u32, limit: u16, addressed: bool, listens: u16,
-        data: *const u8, data_length: usize, request: *mut u8, request_length: usize,
-        events: *const u8, events_length: usize, replies: *const u8, replies_length: usize, answer: *mut u64,
+        data: *const u8, data_length: u64, request: *mut u8, request_length: u64,
+        events: *const u8, events_length: u64, replies: *const u8, replies_length: u64, answer: *mut u64,
     ) -> u8;
     fn bintrochis_door_begin(
         call: u8, flags: u8, value: u16, sub: u8, address_length: u8, size_length: u8,
         p2: u32, p2_star: u32, overall: u32, limit: u16, listens: u16,
-        arguments: *const u8, arguments_length: usize, request: *mut u8, request_length: usize, state: *mut u64,
+        arguments: *const u8, arguments_length: u64, request: *mut u8, request_length: u64, state: *mut u64,
     ) -> u8;
     fn bintrochis_door_begin_alfid(
-        call: u8, flags: u8, value: u16, address: u64, size: u64, address_width: usize, size_width: usize, wide: bool,
+        call: u8, flags: u8, value: u16, address: u64, size: u64, address_width: u64, size_width: u64, wide: bool,
         p2: u32, p2_star: u32, overall: u32, limit: u16, listens: u16,
-        data: *const u8, data_length: usize, request: *mut u8, request_length: usize, state: *mut u64,
+        data: *const u8, data_length: u64, request: *mut u8, request_length: u64, state: *mut u64,
     ) -> u8;
     fn bintrochis_door_event(
-        state: *mut u64, request: *const u8, request_length: usize,
-        time: u32, kind: u16, offset: u16, length: u16, source: u16, replies: *const u8, replies_length: usize,
+        state: *mut u64, request: *const u8, request_length: u64,
+        time: u32, kind: u16, offset: u16, length: u16, source: u16, replies: *const u8, replies_length: u64,
     ) -> u8;
     fn bintrochis_door_tick(state: *mut u64, now: u64) -> u8;
-    fn bintrochis_door_line(log: *const u8, log_length: usize, line: *mut u8, line_length: usize) -> usize;
-    fn bintrochis_door_block(data: *const u8, data_length: usize, block_length: u64, k: u64, block: *mut u64) -> u8;
-    fn bintrochis_door_fault(mask: u8, records: *const u8, records_length: usize, k: usize) -> usize;
+    fn bintrochis_door_line(log: *const u8, log_length: u64, line: *mut u8, line_length: u64) -> u64;
+    fn bintrochis_door_block(data: *const u8, data_length: u64, block_length: u64, k: u64, block: *mut u64) -> u8;
+    fn bintrochis_door_fault(mask: u8, records: *const u8, records_length: u64, k: u64) -> u64;
     fn bintrochis_door_respond(
-        store: *mut u8, store_length: usize, request: *const u8, request_length: usize,
-        reply: *mut u8, reply_length: usize, length: *mut u64,
+        store: *mut u8, store_length: u64, request: *const u8, request_length: u64,
+        reply: *mut u8, reply_length: u64, length: *mut u64,
     ) -> u8;
 }
 
@@ -100,25 +99,30 @@ pub struct Fields {
 /// Lengths of address and size where these are bytes, or in the `alfid` form the numbers themselves.
 #[derive(Debug, Clone, Copy, PartialEq, Eq)]
 pub enum Memory {
-    Lengths {
-        address: u8,
-        size: u8,
-    },
-    Alfid {
-        address: u64,
-        size: u64,
-        address_width: usize,
-        size_width: usize,
-        wide: bool,
-    },
+    Lengths { address: u8, size: u8 },
+    Alfid(Alfid),
 }
 
-/// The slices that a call is lent.
+/// Address and size as numbers.
+#[derive(Debug, Clone, Copy, PartialEq, Eq)]
+pub struct Alfid {
+    pub address: u64,
+    pub size: u64,
+    pub address_width: usize,
+    pub size_width: usize,
+    pub wide: bool,
+}
+
+/// What a call is lent.
 pub struct Lent<'l> {
-    pub arguments: &'l [u8],
     pub request: &'l mut [u8],
     pub events: &'l [u8],
     pub replies: &'l [u8],
+}
+
+/// A slice's length, as the library takes it.
+fn len(slice: &[u8]) -> u64 {
+    slice.len() as u64
 }
 
 /// The number of a negative code's name, or 0.
@@ -127,49 +131,77 @@ pub fn name_number(code: u8) -> u8 {
     unsafe { bintrochis_name_number(code) }
 }
 
-/// One call. `Lent` has exclusive use of what is written to, so nothing overlaps.
+/// One call over events that are `addressed` or not, whatever the fields say; with the lengths of address and size at the front of the
+/// arguments. `Lent` has exclusive use of what is written to, so nothing overlaps.
+#[inline]
 #[rustfmt::skip]
-pub fn call(fields: Fields, [p2, p2_star]: [u32; 2], lent: Lent<'_>, answer: &mut Numbers) -> u8 {
-    let Fields { call, flags, value, sub, memory, overall, limit, addressed, listens } = fields;
-    let Lent { arguments, request, events, replies } = lent;
+pub fn call(
+    fields: &Fields, [address, size]: [u8; 2], addressed: bool, [p2, p2_star]: [u32; 2], arguments: &[u8], lent: Lent<'_>,
+    answer: &mut Numbers,
+) -> u8 {
+    let &Fields { call, flags, value, sub, overall, limit, listens, .. } = fields;
+    let Lent { request, events, replies } = lent;
     // SAFETY: each pointer and length is that of a slice that lives through the call, and `answer` has as many numbers
     // as the library writes. The library is proved to touch nothing else, for all numbers.
     unsafe {
-        match memory {
-            Memory::Lengths { address, size } => bintrochis_door_call(
-                call, flags, value, sub, address, size, p2, p2_star, overall, limit, addressed, listens,
-                arguments.as_ptr(), arguments.len(), request.as_mut_ptr(), request.len(),
-                events.as_ptr(), events.len(), replies.as_ptr(), replies.len(), answer.as_mut_ptr(),
-            ),
-            Memory::Alfid { address, size, address_width, size_width, wide } => bintrochis_door_call_alfid(
-                call, flags, value, address, size, address_width, size_width, wide,
-                p2, p2_star, overall, limit, addressed, listens,
-                arguments.as_ptr(), arguments.len(), request.as_mut_ptr(), request.len(),
-                events.as_ptr(), events.len(), replies.as_ptr(), replies.len(), answer.as_mut_ptr(),
-            ),
-        }
+        bintrochis_door_call(
+            call, flags, value, sub, address, size, p2, p2_star, overall, limit, addressed, listens,
+            arguments.as_ptr(), len(arguments), request.as_mut_ptr(), len(request),
+            events.as_ptr(), len(events), replies.as_ptr(), len(replies), answer.as_mut_ptr(),
+        )
+    }
+}
+
+/// The same in the `alfid` form.
+#[rustfmt::skip]
+pub fn call_alfid(
+    fields: &Fields, alfid: &Alfid, addressed: bool, [p2, p2_star]: [u32; 2], data: &[u8], lent: Lent<'_>,
+    answer: &mut Numbers,
+) -> u8 {
+    let &Fields { call, flags, value, overall, limit, listens, .. } = fields;
+    let &Alfid { address, size, address_width, size_width, wide } = alfid;
+    let Lent { request, events, replies } = lent;
+    // SAFETY: as in `call`.
+    unsafe {
+        bintrochis_door_call_alfid(
+            call, flags, value, address, size, address_width as u64, size_width as u64, wide,
+            p2, p2_star, overall, limit, addressed, listens,
+            data.as_ptr(), len(data), request.as_mut_ptr(), len(request),
+            events.as_ptr(), len(events), replies.as_ptr(), len(replies), answer.as_mut_ptr(),
+        )
     }
 }
 
 /// Begins a call. Its events will have sources, so `addressed` plays no part.
+#[inline]
 #[rustfmt::skip]
 pub fn begin(
-    fields: Fields, [p2, p2_star]: [u32; 2], arguments: &[u8], request: &mut [u8], state: &mut State,
+    fields: &Fields, [address, size]: [u8; 2], [p2, p2_star]: [u32; 2], arguments: &[u8], request: &mut [u8], state: &mut State,
 ) -> u8 {
-    let Fields { call, flags, value, sub, memory, overall, limit, addressed: _, listens } = fields;
+    let &Fields { call, flags, value, sub, overall, limit, listens, .. } = fields;
     // SAFETY: as in `call`; `state` has as many numbers as the library writes.
     unsafe {
-        match memory {
-            Memory::Lengths { address, size } => bintrochis_door_begin(
-                call, flags, value, sub, address, size, p2, p2_star, overall, limit, listens,
-                arguments.as_ptr(), arguments.len(), request.as_mut_ptr(), request.len(), state.as_mut_ptr(),
-            ),
-            Memory::Alfid { address, size, address_width, size_width, wide } => bintrochis_door_begin_alfid(
-                call, flags, value, address, size, address_width, size_width, wide,
-                p2, p2_star, overall, limit, listens,
-                arguments.as_ptr(), arguments.len(), request.as_mut_ptr(), request.len(), state.as_mut_ptr(),
-            ),
-        }
+        bintrochis_door_begin(
+            call, flags, value, sub, address, size, p2, p2_star, overall, limit, listens,
+            arguments.as_ptr(), len(arguments), request.as_mut_ptr(), len(request), state.as_mut_ptr(),
+        )
+    }
+}
+
+/// The same in the `alfid` form.
+#[rustfmt::skip]
+pub fn begin_alfid(
+    fields: &Fields, alfid: &Alfid, [p2, p2_star]: [u32; 2], data: &[u8], request: &mut [u8], state: &mut State,
+) -> u8 {
+    let &Fields { call, flags, value, overall, limit, listens, .. } = fields;
+    let &Alfid { address, size, address_width, size_width, wide } = alfid;
+    // SAFETY: as in `begin`.
+    unsafe {
+        bintrochis_door_begin_alfid(
+            call, flags, value, address, size, address_width as u64, size_width as u64, wide,
+            p2, p2_star, overall, limit, listens,
+            data.as_ptr(), len(data), request.as_mut_ptr(), len(request), state.as_mut_ptr(),
+        )
     }
 }
 
@@ -180,8 +212,8 @@ pub fn event(state: &mut State, request: &[u8], event: Event, replies: &[u8]) ->
     // SAFETY: as in `call`; of the state, whatever its numbers are, the library reads and writes these numbers alone.
     unsafe {
         bintrochis_door_event(
-            state.as_mut_ptr(), request.as_ptr(), request.len(),
-            time, kind, offset, length, source, replies.as_ptr(), replies.len(),
+            state.as_mut_ptr(), request.as_ptr(), len(request),
+            time, kind, offset, length, source, replies.as_ptr(), len(replies),
         )
     }
 }
@@ -200,7 +232,9 @@ pub fn version() -> u32 {
 /// How long the line is that stands at the buffer's front; 0 where there is no room.
 pub fn line(log: &[u8], line: &mut [u8]) -> usize {
     // SAFETY: as in `call`.
-    unsafe { bintrochis_door_line(log.as_ptr(), log.len(), line.as_mut_ptr(), line.len()) }
+    let length =
+        unsafe { bintrochis_door_line(log.as_ptr(), len(log), line.as_mut_ptr(), len(line)) };
+    length as usize
 }
 
 /// Counter, place and length of block k, or the refusal.
@@ -210,7 +244,7 @@ pub fn block(data: &[u8], block_length: u64, k: u64) -> Result<[u64; 3], u8> {
     match unsafe {
         bintrochis_door_block(
             data.as_ptr(),
-            data.len(),
+            len(data),
             block_length,
             k,
             block.as_mut_ptr(),
@@ -221,11 +255,11 @@ pub fn block(data: &[u8], block_length: u64, k: u64) -> Result<[u64; 3], u8> {
     }
 }
 
-/// Where the k-th record that the mask selects begins.
-pub fn fault(mask: u8, records: &[u8], k: usize) -> Option<usize> {
+/// Where the first record that the mask selects begins.
+pub fn first_fault(mask: u8, records: &[u8]) -> Option<usize> {
     // SAFETY: as in `call`.
-    let at = unsafe { bintrochis_door_fault(mask, records.as_ptr(), records.len(), k) };
-    (at != usize::MAX).then_some(at)
+    let at = unsafe { bintrochis_door_fault(mask, records.as_ptr(), len(records), 0) };
+    (at != u64::MAX).then_some(at as usize)
 }
 
 /// How long the reply is that stands at the buffer's front, 0 for silence; or the refusal.
@@ -235,11 +269,11 @@ pub fn respond(store: &mut [u8], request: &[u8], reply: &mut [u8]) -> Result<usi
     match unsafe {
         bintrochis_door_respond(
             store.as_mut_ptr(),
-            store.len(),
+            len(store),
             request.as_ptr(),
-            request.len(),
+            len(request),
             reply.as_mut_ptr(),
-            reply.len(),
+            len(reply),
             &mut length,
         )
     } {

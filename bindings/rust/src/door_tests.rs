@@ -27,13 +27,13 @@ fn alfid() -> Fields {
     Fields {
         call: 5,
         value: 0,
-        memory: Memory::Alfid {
+        memory: Memory::Alfid(Alfid {
             address: 1,
             size: 1,
             address_width: 1,
             size_width: 1,
             wide: false,
-        },
+        }),
         ..read()
     }
 }
@@ -42,12 +42,30 @@ fn alfid() -> Fields {
 fn tried(fields: Fields, arguments: &[u8]) -> (u8, bool) {
     let (mut request, mut answer) = ([0xa5; 64], [77; number::COUNT]);
     let lent = Lent {
-        arguments,
         request: &mut request,
         events: &[],
         replies: &[],
     };
-    let result = call(fields, [50, 5000], lent, &mut answer);
+    let result = match fields.memory {
+        Memory::Lengths { address, size } => call(
+            &fields,
+            [address, size],
+            fields.addressed,
+            [50, 5000],
+            arguments,
+            lent,
+            &mut answer,
+        ),
+        Memory::Alfid(alfid) => call_alfid(
+            &fields,
+            &alfid,
+            fields.addressed,
+            [50, 5000],
+            arguments,
+            lent,
+            &mut answer,
+        ),
+    };
     let untouched = request == [0xa5; 64] && answer == [77; number::COUNT];
     (result, untouched)
 }
@@ -55,7 +73,24 @@ fn tried(fields: Fields, arguments: &[u8]) -> (u8, bool) {
 /// The same of beginning the call.
 fn begun(fields: Fields, arguments: &[u8]) -> (u8, bool) {
     let (mut request, mut state) = ([0xa5; 64], [77; STATE]);
-    let result = begin(fields, [50, 5000], arguments, &mut request, &mut state);
+    let result = match fields.memory {
+        Memory::Lengths { address, size } => begin(
+            &fields,
+            [address, size],
+            [50, 5000],
+            arguments,
+            &mut request,
+            &mut state,
+        ),
+        Memory::Alfid(alfid) => begin_alfid(
+            &fields,
+            &alfid,
+            [50, 5000],
+            arguments,
+            &mut request,
+            &mut state,
+        ),
+    };
     (result, request == [0xa5; 64] && state == [77; STATE])
 }
 
@@ -218,13 +253,13 @@ fn numbers_that_ask_none_touch_nothing() {
         ),
         (
             Fields {
-                memory: Memory::Alfid {
+                memory: Memory::Alfid(Alfid {
                     address: 1,
                     size: 1,
                     address_width: 1,
                     size_width: 1,
                     wide: false,
-                },
+                }),
                 ..read()
             },
             &[],
@@ -270,7 +305,7 @@ fn every_number_of_a_state() {
         numbers.try_into().expect("28 numbers")
     };
     let (mut request, mut state) = ([0; 64], [77; STATE]);
-    let begun = begin(fields, [50, 5000], &[], &mut request, &mut state);
+    let begun = begin(&fields, [0, 0], [50, 5000], &[], &mut request, &mut state);
     assert_eq!((begun, state), (DONE, waiting(50, 0, 0, 0)));
 
     let replies = [0x7f, 0x22, 0x78, 0x62, 0x21, 0x01, 0x03, 0xe8];
@@ -295,12 +330,14 @@ fn every_number_of_a_state() {
     ];
     let mut answer = [77; number::COUNT];
     let lent = Lent {
-        arguments: &[],
         request: &mut [0; 64],
         events: &events,
         replies: &replies,
     };
-    assert_eq!(call(fields, [50, 5000], lent, &mut answer), DONE);
+    assert_eq!(
+        call(&fields, [0, 0], true, [50, 5000], &[], lent, &mut answer),
+        DONE
+    );
     assert_eq!(answer[..5], [0, 0, 0, 0, 897]);
     let numbers: Vec<u64> = [&answer[..], &[897, 0, 0, 0], &asked].concat();
     assert_eq!((late, &state[..]), (DONE, &numbers[..]));
@@ -371,7 +408,7 @@ fn states_that_never_came_from_begin() {
 #[test]
 fn a_state_that_asks_no_call() {
     let mut begun = [77; STATE];
-    let result = begin(read(), [50, 5000], &[], &mut [0; 64], &mut begun);
+    let result = begin(&read(), [0, 0], [50, 5000], &[], &mut [0; 64], &mut begun);
     assert_eq!(result, DONE);
     let changes: [&[(usize, u64)]; 10] = [
         &[(19, 16)],

@@ -4,7 +4,7 @@ use core::error::Error;
 use core::fmt;
 
 use crate::door::{self, number};
-use crate::{answer_of, Answer, Asked, Session};
+use crate::{answer_of, no_such, Answer, Asked, Session, NO_MEMORY};
 
 /// One event, with the fields that it has in a log of version 2. Where a controller is alone on its channel, sources are 0.
 #[derive(Debug, Clone, Copy, PartialEq, Eq)]
@@ -145,6 +145,7 @@ impl<'q> Engine<'q> {
 
     /// Hands over one event with the reply bytes that it names a part of; these are lent for it alone. What was decided, if this
     /// step settled the call. Past the deadline or T an event settles it as a tick would, and is not read.
+    #[inline]
     pub fn event<'r>(
         &mut self,
         event: Event,
@@ -156,6 +157,7 @@ impl<'q> Engine<'q> {
 
     /// Says the time, in milliseconds since sending. What was decided, if this step settled the call: past the deadline or T, not
     /// at it.
+    #[inline]
     pub fn tick(&mut self, now: u64) -> Result<Option<Answer<'q, 'static>>, StepRefusal> {
         taken(door::tick(&mut self.state, now))?;
         Ok(self.settled(&[]))
@@ -167,13 +169,12 @@ impl<'q> Engine<'q> {
 
     /// What was decided, where `replies` are the bytes lent with the event that settled the call; a tick settles it without any.
     /// None while the engine waits. None also where `replies` end before the decision's places: these are other bytes.
+    #[inline]
     pub fn settled<'r>(&self, replies: &'r [u8]) -> Option<Answer<'q, 'r>> {
         if !self.is_settled() {
             return None;
         }
-        let mut numbers = [0; number::COUNT];
-        numbers.copy_from_slice(&self.state[..number::COUNT]);
-        answer_of(&numbers, self.request, replies)
+        answer_of(self.state.first_chunk()?, self.request, replies)
     }
 
     /// The deadline, in milliseconds since sending, while the engine waits. What comes at the deadline is in time.
@@ -211,7 +212,7 @@ fn taken(result: u8) -> Result<(), StepRefusal> {
         10 => Err(StepRefusal::BadEvent),
         20 => Err(StepRefusal::GoingBack),
         21 => Err(StepRefusal::Settled),
-        other => unreachable!("a state that begin wrote asks its call, and yet {other}"),
+        other => no_such("result of a step from what begin wrote", other.into()),
     }
 }
 
@@ -220,16 +221,39 @@ impl Asked<'_> {
     /// has settled with its refusal, and the buffer is as it was.
     ///
     /// An engine's events always have a source: without [`Config::listens`](crate::Config::listens) it listens to 0.
+    #[inline]
     pub fn begin<'q>(&self, session: Session, request: &'q mut [u8]) -> Engine<'q> {
-        let mut state = [0; door::STATE];
-        let timing = [session.p2, session.p2_star];
-        let result = self.with_arguments(|arguments| {
-            door::begin(self.fields, timing, arguments, &mut *request, &mut state)
-        });
-        assert_eq!(result, door::DONE, "the fields of {self:?} ask no call");
-        Engine {
-            state,
-            request: &request[..state[number::REQUEST_LENGTH] as usize],
+        // the state is written where it stays
+        let mut engine = Engine {
+            state: [0; door::STATE],
+            request: &[],
+        };
+        let (timing, state) = ([session.p2, session.p2_star], &mut engine.state);
+        let result = match self.fields.memory {
+            NO_MEMORY => {
+                let (lengths, data) = ([0, 0], self.data);
+                door::begin(&self.fields, lengths, timing, data, &mut *request, state)
+            }
+            _ => self.begin_on_memory(timing, &mut *request, state),
+        };
+        if result != door::DONE {
+            no_such("result of what asks a call", result.into());
+        }
+        engine.request = &request[..engine.state[number::REQUEST_LENGTH] as usize];
+        engine
+    }
+
+    /// With an address and a size; a frame of its own, as for a whole call.
+    #[inline(never)]
+    fn begin_on_memory(&self, timing: [u32; 2], request: &mut [u8], state: &mut door::State) -> u8 {
+        match &self.fields.memory {
+            door::Memory::Alfid(alfid) => {
+                door::begin_alfid(&self.fields, alfid, timing, self.data, request, state)
+            }
+            &door::Memory::Lengths { address, size } => self.in_a_row(|arguments| {
+                let lengths = [address, size];
+                door::begin(&self.fields, lengths, timing, arguments, request, state)
+            }),
         }
     }
 }

@@ -2,8 +2,8 @@
 //!
 //! A call is judged from what was heard. [`Asked::request`] writes the bytes to send into a lent buffer, and [`Asked::hear`] judges a
 //! [`Recording`] of what came back, each event with its time since sending. [`Client`] does both over a [`Transport`]: it sends, listens
-//! until the call is settled, and keeps the session. [`Asked::begin`] is for a task that cannot wait: its [`Engine`] is handed one event
-//! or the time in each cycle.
+//! until the call has settled, keeps the session, and comes back at the finishing time. [`Asked::begin`] is for a task that cannot wait:
+//! its [`Engine`] is handed one event or the time in each cycle.
 //!
 //! ```
 //! use bintrochis::{Asked, Call, Config, Recording, Session, LONGEST_REQUEST};
@@ -295,6 +295,12 @@ const OVERALL: u8 = 8;
 const SUB: u8 = 16;
 const DATA: u8 = 32;
 
+/// What a call without address and size has in their place.
+const NO_MEMORY: door::Memory = door::Memory::Lengths {
+    address: 0,
+    size: 0,
+};
+
 /// A field of more bytes than this is refused as one of so many is, and its length may not fit the door's byte.
 const TOO_LONG: usize = 16;
 
@@ -374,14 +380,14 @@ impl<'a> Asked<'a> {
                 address_width,
                 size_width,
             } => {
-                let alfid = door::Memory::Alfid {
+                let alfid = door::Alfid {
                     address,
                     size,
                     address_width,
                     size_width,
                     wide: config.wide,
                 };
-                (alfid, &[][..], &[][..])
+                (door::Memory::Alfid(alfid), &[][..], &[][..])
             }
         };
         let flags = [
@@ -414,13 +420,18 @@ impl<'a> Asked<'a> {
         }
     }
 
-    /// Address, size and data in a row, as the library takes them. A request with so much data that it is cut here is refused with 8,
-    /// cut or whole.
-    fn with_arguments<R>(&self, then: impl FnOnce(&[u8]) -> R) -> R {
-        if self.address.is_empty() && self.size.is_empty() {
-            return then(self.data);
+    /// Address, size and data as the library takes them, in a row.
+    fn in_a_row<R>(&self, then: impl FnOnce(&[u8]) -> R) -> R {
+        if self.data.is_empty() {
+            return self.in_a_row_of::<{ 2 * TOO_LONG }, R>(then);
         }
-        let mut row = [0; 2 * TOO_LONG + LONGEST_REQUEST + 1];
+        self.in_a_row_of::<{ 2 * TOO_LONG + LONGEST_REQUEST + 1 }, R>(then)
+    }
+
+    /// A request with so much data that it is cut here is refused with 8, cut or whole.
+    #[inline(never)]
+    fn in_a_row_of<const N: usize, R>(&self, then: impl FnOnce(&[u8]) -> R) -> R {
+        let mut row = [0; N];
         let data = &self.data[..self.data.len().min(LONGEST_REQUEST + 1)];
         let mut length = 0;
         for part in [self.address, self.size, data] {
@@ -442,21 +453,20 @@ impl<'a> Asked<'a> {
     /// The whole call over what was heard. [`Answer::response`] says it as a `Result`.
     ///
     /// A recording says where each reply comes from, 0 if it was not told; so without [`Config::listens`] 0 is listened to.
+    #[inline]
     pub fn hear<'q, 'r>(
         &self,
         session: &mut Session,
         request: &'q mut [u8],
         heard: &'r Recording<'_>,
     ) -> Answer<'q, 'r> {
-        let fields = Fields {
-            addressed: true,
-            ..self.fields
-        };
-        Asked { fields, ..*self }.answer(session, request, heard.events(), heard.replies())
+        let (events, replies) = (heard.events(), heard.replies());
+        self.answered(true, session, request, events, replies)
     }
 
     /// The whole call over a list of events as bytes, a log's: ten for each, or where the call listens to an address twelve, as
     /// [`Event::to_bytes`] writes them. `replies` are the bytes that they name parts of.
+    #[inline]
     pub fn answer<'q, 'r>(
         &self,
         session: &mut Session,
@@ -464,18 +474,44 @@ impl<'a> Asked<'a> {
         events: &[u8],
         replies: &'r [u8],
     ) -> Answer<'q, 'r> {
+        self.answered(self.fields.addressed, session, request, events, replies)
+    }
+
+    /// The same, where events have a source or none.
+    #[inline]
+    fn answered<'q, 'r>(
+        &self,
+        addressed: bool,
+        session: &mut Session,
+        request: &'q mut [u8],
+        events: &[u8],
+        replies: &'r [u8],
+    ) -> Answer<'q, 'r> {
         let mut numbers: Numbers = [0; number::COUNT];
         let timing = [session.p2, session.p2_star];
-        let result = self.with_arguments(|arguments| {
-            let lent = Lent {
-                arguments,
-                request: &mut *request,
-                events,
-                replies,
-            };
-            door::call(self.fields, timing, lent, &mut numbers)
-        });
-        assert_eq!(result, door::DONE, "the fields of {self:?} ask no call");
+        let result = match self.fields.memory {
+            NO_MEMORY => {
+                let lent = Lent {
+                    request: &mut *request,
+                    events,
+                    replies,
+                };
+                let (lengths, data) = ([0, 0], self.data);
+                door::call(
+                    &self.fields,
+                    lengths,
+                    addressed,
+                    timing,
+                    data,
+                    lent,
+                    &mut numbers,
+                )
+            }
+            _ => self.call_on_memory(addressed, timing, request, events, replies, &mut numbers),
+        };
+        if result != door::DONE {
+            no_such("result of what asks a call", result.into());
+        }
         *session = Session {
             p2: numbers[number::P2] as u32,
             p2_star: numbers[number::P2_STAR] as u32,
@@ -484,9 +520,59 @@ impl<'a> Asked<'a> {
         answer_of(&numbers, request, replies)
             .expect("the library is proved to name places in the reply bytes alone")
     }
+
+    /// A call with an address and a size. It has a frame of its own, so that another call fits a small stack.
+    #[inline(never)]
+    fn call_on_memory(
+        &self,
+        addressed: bool,
+        timing: [u32; 2],
+        request: &mut [u8],
+        events: &[u8],
+        replies: &[u8],
+        numbers: &mut Numbers,
+    ) -> u8 {
+        let lent = Lent {
+            request,
+            events,
+            replies,
+        };
+        match &self.fields.memory {
+            door::Memory::Alfid(alfid) => door::call_alfid(
+                &self.fields,
+                alfid,
+                addressed,
+                timing,
+                self.data,
+                lent,
+                numbers,
+            ),
+            &door::Memory::Lengths { address, size } => self.in_a_row(|arguments| {
+                let lengths = [address, size];
+                door::call(
+                    &self.fields,
+                    lengths,
+                    addressed,
+                    timing,
+                    arguments,
+                    lent,
+                    numbers,
+                )
+            }),
+        }
+    }
+}
+
+/// What the library is proved never to say. The words are put together in a frame of their own, so that no call has room for them on
+/// its stack.
+#[cold]
+#[inline(never)]
+fn no_such(what: &str, number: u64) -> ! {
+    unreachable!("the library is proved to number no {what} {number}")
 }
 
 /// The answer that numbers say, with the bytes that were sent; none where the reply bytes end before its places.
+#[inline(always)]
 fn answer_of<'q, 'r>(
     numbers: &Numbers,
     request: &'q [u8],
@@ -505,6 +591,7 @@ fn answer_of<'q, 'r>(
     })
 }
 
+#[inline]
 fn outcome<'r>(numbers: &Numbers, data: &'r [u8]) -> Outcome<'r> {
     let detail = numbers[number::DETAIL];
     match numbers[number::OUTCOME] {
@@ -519,10 +606,11 @@ fn outcome<'r>(numbers: &Numbers, data: &'r [u8]) -> Outcome<'r> {
         8 => Outcome::BlockLengthOverflow,
         9 => Outcome::Refused(detail as u8),
         10 => Outcome::PendingLimit,
-        other => unreachable!("the library is proved to number no outcome {other}"),
+        other => no_such("outcome", other),
     }
 }
 
+#[inline]
 fn deviation(numbers: &Numbers) -> ProtocolDeviation {
     match numbers[number::DETAIL] {
         1 => ProtocolDeviation::InvalidServiceId,
@@ -543,7 +631,7 @@ fn deviation(numbers: &Numbers) -> ProtocolDeviation {
         13 => ProtocolDeviation::InvalidMemoryAddress,
         14 => ProtocolDeviation::InvalidMemorySize,
         15 => ProtocolDeviation::InvalidMemoryRecordLength,
-        other => unreachable!("the library is proved to number no deviation {other}"),
+        other => no_such("deviation", other),
     }
 }
 

@@ -2,22 +2,31 @@
 
 use crate::{door, Answer, Error, NegativeResponseCode, Outcome, Refusal};
 
-/// How a call went well.
+/// How a call went well, and its finishing time, in milliseconds since sending.
 #[derive(Debug, Clone, Copy, PartialEq, Eq)]
 pub enum Response<'r> {
-    Positive(Record<'r>),
+    Positive {
+        record: Record<'r>,
+        time: u64,
+    },
     /// Silence, which was asked for.
-    Suppressed,
+    Suppressed {
+        time: u64,
+    },
 }
 
 impl<'r> Answer<'_, 'r> {
     /// The outcome as a `Result`: positive and asked-for silence are well, all else is an [`Error`].
     pub fn response(&self) -> Result<Response<'r>, Error> {
+        let time = self.time;
         Err(match self.outcome {
-            Outcome::PositiveResponse(data) => return Ok(Response::Positive(Record(data))),
-            Outcome::Suppressed => return Ok(Response::Suppressed),
+            Outcome::PositiveResponse(data) => {
+                let record = Record(data);
+                return Ok(Response::Positive { record, time });
+            }
+            Outcome::Suppressed => return Ok(Response::Suppressed { time }),
             Outcome::NegativeResponse(code) => Error::Negative(code),
-            Outcome::Timeout => Error::Timeout(self.time),
+            Outcome::Timeout => Error::Timeout(time),
             Outcome::Disconnected => Error::Disconnected,
             Outcome::Transport(number) => Error::Transport(number),
             Outcome::ProtocolDeviation(deviation) => Error::Deviation(deviation),
@@ -33,8 +42,15 @@ impl<'r> Response<'r> {
     /// The record that a positive handed out; an error where the controller was silent, as it was asked to be.
     pub fn record(self) -> Result<Record<'r>, Error> {
         match self {
-            Response::Positive(record) => Ok(record),
-            Response::Suppressed => Err(Error::NoRecord),
+            Response::Positive { record, .. } => Ok(record),
+            Response::Suppressed { .. } => Err(Error::NoRecord),
+        }
+    }
+
+    /// The finishing time, in milliseconds since sending.
+    pub fn time(self) -> u64 {
+        match self {
+            Response::Positive { time, .. } | Response::Suppressed { time } => time,
         }
     }
 }
@@ -87,7 +103,6 @@ impl<'r> Record<'r> {
         Faults {
             mask,
             records: self.0.get(1..).unwrap_or_default(),
-            next: 0,
         }
     }
 }
@@ -104,17 +119,18 @@ pub struct Fault {
 #[derive(Debug, Clone, PartialEq, Eq)]
 pub struct Faults<'r> {
     mask: u8,
+    /// The records behind the last fault that was found, so that no record is read twice.
     records: &'r [u8],
-    next: usize,
 }
 
 impl Iterator for Faults<'_> {
     type Item = Fault;
 
     fn next(&mut self) -> Option<Fault> {
-        let at = door::fault(self.mask, self.records, self.next)?;
-        let &[high, middle, low, status] = self.records.get(at..)?.first_chunk::<4>()?;
-        self.next += 1;
+        let at = door::first_fault(self.mask, self.records)?;
+        let (&[high, middle, low, status], behind) =
+            self.records.get(at..)?.split_first_chunk::<4>()?;
+        self.records = behind;
         Some(Fault {
             code: u32::from_be_bytes([0, high, middle, low]),
             status,

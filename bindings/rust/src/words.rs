@@ -18,7 +18,7 @@ pub enum Error {
     /// Lenient: a reply too short to read.
     TooShort,
     BlockLengthOverflow,
-    /// Nothing was sent.
+    /// There is no answer: a request that cannot be made (refusals 1 to 9), or a list of events that breaks a limit (10).
     Refused(Refusal),
     /// The controller asked for patience once more than the limit bears; how often in all.
     PendingLimit(usize),
@@ -51,7 +51,7 @@ impl fmt::Display for Error {
             Error::TooShort => f.write_str("the reply is too short to read"),
             Error::BlockLengthOverflow => f.write_str("the block length does not fit 64 bits"),
             Error::Refused(refusal) => {
-                write!(f, "nothing was sent: {refusal} (refusal {})", refusal.0)
+                write!(f, "the call is refused: {refusal} (refusal {})", refusal.0)
             }
             Error::PendingLimit(notices) => {
                 write!(
@@ -114,11 +114,12 @@ impl fmt::Display for ProtocolDeviation {
             ProtocolDeviation::InvalidRoutineIdentifier => "it names another routine",
             ProtocolDeviation::InvalidBlockSequenceCounter => "it names another block",
             ProtocolDeviation::InvalidResponseLength { minimum, maximum } => {
+                // the bounds are not all: call 15 wants 3 bytes and a multiple of 4
                 return match maximum {
                     Some(most) if most == minimum => write!(f, "it has not {minimum} bytes"),
-                    Some(most) => write!(f, "it has not {minimum} to {most} bytes"),
-                    None => write!(f, "it has not {minimum} bytes or more"),
-                }
+                    Some(most) => write!(f, "its length is wrong (bounds {minimum} to {most})"),
+                    None => write!(f, "its length is wrong (bounds {minimum} or more)"),
+                };
             }
             ProtocolDeviation::InvalidLengthFormat => "its block length has no bytes",
             ProtocolDeviation::InvalidLengthFormatIdentifier => {

@@ -1,2 +1,3 @@
 -- Laws behind the proofs of `book_counters`.
 pub mod Classes
+pub mod Unique

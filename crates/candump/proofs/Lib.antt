@@ -2,4 +2,5 @@
 pub mod Grammar
 pub mod Phases
 pub mod Reading
+pub mod Words
 pub mod Rows

@@ -1,10 +1,11 @@
 -- The phases that a `match` of the code does not name.
 use Prim.Native.Nat.{ℕ}
+use mathlib.Core.Bool.{false}
 use mathlib.Core.List.{List, [], _∷_}
 use mathlib.Core.Path.{_≡_, refl}
 use types.Run.{OneOf, miss}
 use denote.Enum.Declared.{tagOf}
-use Rattle.candump.specs.Reading.{stored, ended}
+use Rattle.candump.specs.Reading.{stored, ended, hopeless}
 use Rattle.candump.specs.declared.Found.the-variants.{Unreadable}
 use Rattle.candump.specs.declared.Phase.{Phase}
 use Rattle.candump.specs.declared.Phase.the-variants.{Start, Blanks, Seconds, Micros, Closed, BeforeName, Name, BeforeIdentifier, Identifier}
@@ -58,3 +59,27 @@ nothing-stored (Behind f) d c k = refl
 nothing-stored (Spaced f) d c k = refl
 nothing-stored (Directed f) d c k = refl
 nothing-stored Bad d c k = refl
+
+abbrev pub notBad : List ℕ
+notBad = 0 ∷ 1 ∷ 2 ∷ 3 ∷ 4 ∷ 5 ∷ 6 ∷ 7 ∷ 8 ∷ 9 ∷ 10 ∷ 11 ∷ 12 ∷ 13 ∷ 14 ∷ 15 ∷ []
+
+-- A line may still be read there.
+pub some-hope : (p : Phase) → OneOf notBad (tagOf the-type p) → false ≡ hopeless p
+unfolding hopeless
+some-hope Start k = refl
+some-hope Blanks k = refl
+some-hope (Seconds n v) k = refl
+some-hope (Micros s n v) k = refl
+some-hope (Closed t) k = refl
+some-hope (BeforeName t) k = refl
+some-hope (Name t) k = refl
+some-hope (BeforeIdentifier t) k = refl
+some-hope (Identifier t n v) k = refl
+some-hope (Data t id n) k = refl
+some-hope (Half t id n h) k = refl
+some-hope (Remote t) k = refl
+some-hope (Fd t n) k = refl
+some-hope (Behind f) k = refl
+some-hope (Spaced f) k = refl
+some-hope (Directed f) k = refl
+some-hope Bad k = absurd (miss notBad 16 _ k)

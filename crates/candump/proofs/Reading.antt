@@ -13,7 +13,8 @@ use borrow.Author.Tests.{eq-eqb, ne-eqb, eqb-true, eqb-false, le-leb, lt-leb, lt
 use Rattle.candump.specs.Text.{between, Class, Space, Digit, Hex, Printable, is, run, past, worth, number, pairs}
 use Rattle.candump.specs.Lines.{Line, blank, unreadable, other, frame, front, rest, none, some, isDirection, ends, isData, isRemote, isFd, classic, content}
 use Rattle.candump.specs.Lines.{isIdentifier, identifier, identified, unnamed, named, timed, micros, seconds, opened, bare, whole, read}
-use Rattle.candump.specs.Reading.{more, microseconds, canId, classicFound, after, stored, next, ended, begun, lineOf, readOn, Reads}
+use Rattle.candump.specs.Reading.{more, microseconds, canId, classicFound, after, stored, next, ended, begun, lineOf, readOn, hopeless, Reads}
+use Rattle.candump.specs.Reading.{Hopeless}
 use Rattle.candump.specs.declared.Found.{Found}
 use Rattle.candump.specs.declared.Found.the-variants.{Blank, Unreadable, Other, Frame}
 use Rattle.candump.specs.declared.Phase.{Phase}
@@ -68,7 +69,7 @@ means (Directed f) d t = cond (none (past Space t)) (lineOf f d) unreadable
 means Bad d t = unreadable
 
 -- Every number of i digits is smaller.
-unfoldable power : ℕ → ℕ
+unfoldable pub power : ℕ → ℕ
 power zero = 1
 power (suc i) = power i * 16
 
@@ -77,7 +78,7 @@ unfolding power
 power-up zero i = let same : i + 0 ≡ i = omega arith in rw same (omega arith)
 power-up (suc n) i = let same : i + suc n ≡ suc (i + n) = omega arith in rw same (omega (arith, power-up n i))
 
-power-ten : (i : ℕ) → i ≤ 10 → power i ≤ 0x10000000000
+pub power-ten : (i : ℕ) → i ≤ 10 → power i ≤ 0x10000000000
 unfolding power
 power-ten i h = let ten : i + (10 - i) ≡ 10 = omega arith in rw ten at (power-up (10 - i) i)
 
@@ -107,14 +108,14 @@ fits-pick false p q f g = g refl
 
 -- One digit more.
 module _ (n v c : ℕ) (small : v < power n) (few : n ≤ 10) where
-  same-more : (base : ℕ) → more base v c ≡ v * base + worth c
+  pub same-more : (base : ℕ) → more base v c ≡ v * base + worth c
   same-more base = let same : v % 0x100000000000000 ≡ v = omega (arith, power-ten n few) in ap (λ (k : ℕ). k * base + worth c) same
 
   more-ten : n < 10 → more 10 v c < power (n % 16 + 1)
   unfolding power
   more-ten h = let one : n % 16 + 1 ≡ suc n = omega arith in rw (one, same-more 10) (omega (arith, worth-small c))
 
-  more-sixteen : n < 10 → more 16 v c < power (n % 16 + 1)
+  pub more-sixteen : n < 10 → more 16 v c < power (n % 16 + 1)
   unfolding power
   more-sixteen h = let one : n % 16 + 1 ≡ suc n = omega arith in rw (one, same-more 16) (omega (arith, worth-small c))
 
@@ -498,7 +499,7 @@ stored-keeps (Spaced f) d c = (refl, refl)
 stored-keeps (Directed f) d c = (refl, refl)
 stored-keeps Bad d c = (refl, refl)
 
-bad-stays : (r : Reader) (t : List ℕ) → r .phase ≡ Bad → readOn r t .phase ≡ Bad
+pub bad-stays : (r : Reader) (t : List ℕ) → r .phase ≡ Bad → readOn r t .phase ≡ Bad
 unfolding readOn after
 bad-stays r [] e = e
 bad-stays r (c ∷ t) e = bad-stays (next r c) t (go (r .returned) (eqb c 13))
@@ -535,3 +536,28 @@ reads-on p d (c ∷ t) f long =
 pub reads : Reads
 unfolding read
 reads l = reads-on Start (replicate 8 0) l tt refl
+
+-- One phase alone is hopeless.
+pub is-bad : (p : Phase) → hopeless p ≡ true → p ≡ Bad
+unfolding hopeless
+is-bad Start e = absurd (false≢true e)
+is-bad Blanks e = absurd (false≢true e)
+is-bad (Seconds n v) e = absurd (false≢true e)
+is-bad (Micros s n v) e = absurd (false≢true e)
+is-bad (Closed t) e = absurd (false≢true e)
+is-bad (BeforeName t) e = absurd (false≢true e)
+is-bad (Name t) e = absurd (false≢true e)
+is-bad (BeforeIdentifier t) e = absurd (false≢true e)
+is-bad (Identifier t n v) e = absurd (false≢true e)
+is-bad (Data t id n) e = absurd (false≢true e)
+is-bad (Half t id n h) e = absurd (false≢true e)
+is-bad (Remote t) e = absurd (false≢true e)
+is-bad (Fd t n) e = absurd (false≢true e)
+is-bad (Behind f) e = absurd (false≢true e)
+is-bad (Spaced f) e = absurd (false≢true e)
+is-bad (Directed f) e = absurd (false≢true e)
+is-bad Bad e = refl
+
+pub hopeless-stays : Hopeless
+unfolding ended
+hopeless-stays r t h = ap (λ (q : Phase). lineOf (ended q) (readOn r t .bytes)) (bad-stays r t (is-bad (r .phase) h))

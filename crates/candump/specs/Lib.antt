@@ -2,4 +2,5 @@
 pub mod Text
 pub mod Lines
 pub mod Reading
+pub mod Words
 pub mod Rows

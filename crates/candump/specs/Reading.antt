@@ -99,6 +99,26 @@ ended (Spaced f) = f
 ended (Directed f) = f
 ended Bad = Unreadable
 
+-- The line can't be read, whatever follows.
+unfoldable pub hopeless : Phase → Bool
+hopeless Start = false
+hopeless Blanks = false
+hopeless (Seconds n v) = false
+hopeless (Micros s n v) = false
+hopeless (Closed t) = false
+hopeless (BeforeName t) = false
+hopeless (Name t) = false
+hopeless (BeforeIdentifier t) = false
+hopeless (Identifier t n v) = false
+hopeless (Data t id n) = false
+hopeless (Half t id n h) = false
+hopeless (Remote t) = false
+hopeless (Fd t n) = false
+hopeless (Behind f) = false
+hopeless (Spaced f) = false
+hopeless (Directed f) = false
+hopeless Bad = true
+
 abbrev pub begun : Reader
 begun = record { phase = Start; returned = false; bytes = replicate 8 0 }
 
@@ -115,3 +135,7 @@ readOn r (c ∷ t) = readOn (next r c) t
 -- Reading byte by byte is reading the line, however long it is.
 abbrev pub Reads : Type 0
 Reads = (l : List ℕ) → let r = readOn begun l in lineOf (ended (r .phase)) (r .bytes) ≡ read l
+
+-- What can't be read stays so.
+abbrev pub Hopeless : Type 0
+Hopeless = (r : Reader) (t : List ℕ) → hopeless (r .phase) ≡ true → let s = readOn r t in lineOf (ended (s .phase)) (s .bytes) ≡ unreadable

@@ -4,9 +4,11 @@ ghost use mathlib.Core.Path.{_≡_};
 ghost use Prim.Native.Nat.{_+_, _-_, _*_, _%_, _≤_, _<_};
 ghost use lib.Dec.{eqb};
 ghost use Rattle.candump.specs.declared.Found.the-variants.{Other, Unreadable};
+ghost use Rattle.candump.specs.declared.Phase.the-variants.{Bad};
 ghost use Rattle.candump.specs.Text.{between, Hex, is, worth};
 ghost use Rattle.candump.specs.Lines.{isIdentifier};
-ghost use Rattle.candump.specs.Reading.{begun, more, microseconds, canId, classicFound, after, stored, next, ended};
+ghost use Rattle.candump.specs.Words.{names, identifierIn};
+ghost use Rattle.candump.specs.Reading.{begun, more, microseconds, canId, classicFound, after, stored, next, ended, hopeless};
 
 // What a line is. Of a frame: its time in microseconds, its identifier (one of 29 bits is 80000000 hex more), and how many data bytes it has.
 pub enum Found {
@@ -37,6 +39,12 @@ pub enum Phase {
     Spaced(Found),
     Directed(Found),
     Bad,
+}
+
+// What a word is in an identifier's place: one of 29 bits is 80000000 hex more, as in a frame.
+pub enum Named {
+    Id(u64),
+    Nothing,
 }
 
 // A line under way: how far it was read, whether a CR stands there, the data bytes.
@@ -294,6 +302,19 @@ pub fn begin() -> Reader
     }
 }
 
+// Behind a CR nothing may follow.
+fn stepped(returned: bool, phase: Phase, c: u8) -> Phase
+    ensures { λ r. ⌜ r ≡ cond returned Bad (cond (eqb c 13) phase (after phase c)) ⌝ }
+{
+    if returned {
+        return Phase::Bad;
+    }
+    if c == 13 {
+        return phase;
+    }
+    after(phase, c)
+}
+
 // One byte more of the line, which has no LF.
 pub fn next(reader: Reader, c: u8) -> Reader
     ensures { λ r. ⌜ r ≡ next reader c ⌝ }
@@ -301,11 +322,7 @@ pub fn next(reader: Reader, c: u8) -> Reader
     let phase = reader.phase;
     let bytes = reader.bytes;
     Reader {
-        phase: pick(
-            reader.returned,
-            Phase::Bad,
-            pick(c == 13, phase, after(phase, c)),
-        ),
+        phase: stepped(reader.returned, phase, c),
         returned: c == 13,
         bytes: stored(phase, bytes, c),
     }
@@ -327,4 +344,45 @@ pub fn ended(reader: Reader) -> Found
         Phase::Directed(f) => f,
         _ => Found::Unreadable,
     }
+}
+
+// Whether the line can't be read, whatever follows.
+pub fn hopeless(reader: Reader) -> bool
+    ensures { λ r. ⌜ r ≡ hopeless (reader .phase) ⌝ }
+{
+    let phase = reader.phase;
+    match phase {
+        Phase::Bad => true,
+        _ => false,
+    }
+}
+
+// "three digits up to 7FF for 11 bits, eight up to 1FFFFFFF for 29 bits"
+fn names(n: usize, v: u64) -> bool
+    ensures { λ r. ⌜ r ≡ names n v ⌝ }
+{
+    either(both(n == 3, v <= 0x7ff), both(n == 8, v <= 0x1fffffff))
+}
+
+// The identifier that a word names: hex digits, and nothing before or behind them.
+pub fn identifier(word: &[u8]) -> Named
+    ensures { λ r. ⌜ r ≡ identifierIn (now (word .entry)) ⌝ }
+{
+    let n = word.len();
+    if n > 8 {
+        return Named::Nothing;
+    }
+    let mut digits = true;
+    let mut v = 0;
+    let mut i = 0;
+    while i < n {
+        let c = word[i];
+        digits = both(digits, is_hex(c));
+        v = hexadecimal(v, c);
+        i += 1;
+    }
+    if !both(digits, names(n, v)) {
+        return Named::Nothing;
+    }
+    Named::Id(can_id(n as u8, v))
 }

@@ -2,3 +2,4 @@
 pub mod NotTen
 pub mod Written
 pub mod Putting
+pub mod Unique

@@ -2,6 +2,7 @@
 pub mod Logged
 pub mod Overflows
 pub mod Imports
+pub mod Settles
 pub mod Rows
 pub mod Rises
 pub mod Passes

@@ -147,6 +147,14 @@ unfoldable pub bytes : ℕ → ℕ → ℕ → Stream → List ℕ → Stream
 bytes room ask answer s [] = s
 bytes room ask answer s (c ∷ t) = bytes room ask answer (byte room ask answer s c) t
 
+-- Nothing that follows changes what is written: a line was refused, or the line under way can't be read.
+abbrev pub refusedIn : Going → Bool
+refusedIn (going k) = false
+refusedIn (refusedAt n at) = true
+
+abbrev pub settled : Stream → Bool
+settled s = refusedIn (s .kept) || reading.hopeless (s .reader .phase)
+
 -- What is written in the end.
 pub data Written : Type 0 where
   refusedLine : ℕ → ℕ → Written

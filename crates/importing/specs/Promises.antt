@@ -13,7 +13,8 @@ use Rattle.rules.specs.Writing.{putEntries}
 use Rattle.text.specs.Written.{item}
 use Rattle.importing.specs.Import as import
 use Rattle.importing.specs.Import.{Item, request, reply, dropped, next, Imported, within, imported}
-use Rattle.importing.specs.Kept.{Tally, tally, append, noteDrop, noteReply, entry, log, Written, refusedLine, refused, lines, start, bytes, ended}
+use Rattle.importing.specs.Kept.{Tally, tally, append, noteDrop, noteReply, entry, log, Written, refusedLine, refused, lines, start, bytes}
+use Rattle.importing.specs.Kept.{settled, ended}
 
 -- What is told is kept item by item.
 abbrev pub tell : ℕ → Tally → Item → Tally
@@ -81,6 +82,12 @@ Suffices = (room ask answer : ℕ) (text : List ℕ) → 272410 ≤ room → wri
 -- For every text, however it comes in pieces: the definition's result, with its refusals in their order.
 abbrev pub Imports : Type 0
 Imports = (room ask answer : ℕ) (text : List ℕ) → ended room ask answer (bytes room ask answer start text) ≡ written room (imported ask answer text)
+
+-- "14 and 16 as the lines come": the first of them decides, and what stands behind it need not be read.
+abbrev pub Settles : Type 0
+Settles =
+    (room ask answer : ℕ) (text rest : List ℕ) → settled (bytes room ask answer start text) ≡ true →
+    imported ask answer (text ++ rest) ≡ imported ask answer text
 
 -- Refusal 17 is due as soon as a reply does not fit, and only then.
 abbrev pub Overflows : Type 0

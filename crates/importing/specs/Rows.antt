@@ -63,6 +63,14 @@ rows =
     row (lf "(0.000000) c 7E0#0101" ++
     lf "(4294967.296000) c 7E8#0102")
     (refused 17) ∷
+    -- Neither a reply past the limit nor a text without a request so far is the end of it: a line behind them that is refused comes first.
+    row (lf "(0.000000) c 7E0#0101" ++
+    lf "(4294967.296000) c 7E8#0102" ++
+    lf "x")
+    (refusedLine 14 3) ∷
+    row (lf "(1.000000) c 7E8#0101" ++
+    lf "(0.999999) c 7E8#0101")
+    (refusedLine 16 2) ∷
     -- A request of two frames starts the clock at its last, and a reply begun before it counts.
     row (lf "(0.000000) c 7E0#1008010203040506" ++
     lf "(0.003000) c 7E8#10080A0B0C0D0E0F" ++

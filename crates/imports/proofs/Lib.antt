@@ -2,4 +2,5 @@
 pub mod Noting
 pub mod Logging
 pub mod Stepping
+pub mod Settling
 pub mod Unique

@@ -1,12 +1,13 @@
 -- How the code holds what is kept: numbers in structs, bytes in lent buffers.
 use Prim.Native.Nat.{ℕ, _*_, _≤_}
-use mathlib.Core.Bool.{Bool, true, false, cond, _&&_}
+use mathlib.Core.Bool.{Bool, true, false, cond, not, _&&_, _||_}
 use mathlib.Core.List.{List}
 use mathlib.Core.Option.{Option, none, some}
 use mathlib.Core.Path.{_≡_}
 use lib.Dec.{leb, ltb, eqb}
 use lib.ListN.{length, take, drop}
 use Rattle.isotp.specs.Held.{stateOf}
+use Rattle.candump.specs.Reading.{hopeless}
 use Rattle.importing.specs.Kept as kept
 use Rattle.importing.specs.Kept.{Going, going, refusedAt, Written, refusedLine, refused, lines}
 use Rattle.imports.specs.declared.Start.{Start}
@@ -52,6 +53,13 @@ goingOf i asked answered out log =
 
 abbrev pub streamOf : Stream → List ℕ → List ℕ → List ℕ → List ℕ → kept.Stream
 streamOf s asked answered out log = kept.stream (s .reader) (goingOf (s .import) asked answered out log)
+
+-- What is settled is so whatever the buffers hold: `Settled`.
+abbrev pub settledIn : Stream → Bool
+settledIn s = not (eqb (s .import .«refused») 0) || hopeless (s .reader .phase)
+
+abbrev pub Settled : Type 0
+Settled = (s : Stream) (asked answered out log : List ℕ) → settledIn s ≡ kept.settled (streamOf s asked answered out log)
 
 -- Nothing is under way, and nothing kept, whatever the buffers hold.
 abbrev pub Begins : Stream → Type 0

@@ -19,8 +19,8 @@ ghost use lib.ListN.{length, drop};
 ghost use Rattle.isotp.specs.Held.{givenOf};
 ghost use Rattle.candump.specs.Reading.{lineOf};
 ghost use Rattle.importing.specs.Import.{next};
-ghost use Rattle.importing.specs.Kept.{noteDrop, noteRequest, noteReply, noteGiven, fitsIn, logReply, logGiven, framed, step, readLine, byte, bytes, ended};
-ghost use Rattle.imports.specs.Held.{startOf, tallyOf, logIn, logOf, keptOf, goingOf, streamOf, Begins, Tallied, Finished};
+ghost use Rattle.importing.specs.Kept.{noteDrop, noteRequest, noteReply, noteGiven, fitsIn, logReply, logGiven, framed, step, readLine, bytes, ended};
+ghost use Rattle.imports.specs.Held.{startOf, tallyOf, logIn, logOf, keptOf, goingOf, streamOf, settledIn, Begins, Tallied, Finished};
 
 // Of the lines at which a message was given up, so many are kept.
 const MOST_DROPS: u64 = 4096;
@@ -462,34 +462,6 @@ fn line_ends(
     )
 }
 
-fn byte(
-    s: Stream,
-    c: u8,
-    ask: u64,
-    answer: u64,
-    asked: &mut [u8; 4095],
-    answered: &mut [u8; 4095],
-    out: &mut [u8],
-    log: &mut [u8; 70655],
-) -> Stream
-    ensures { λ r. ⌜ streamOf r (now (asked .exit)) (now (answered .exit)) (now (out .exit)) (now (log .exit)) ≡ byte (length (now (out .entry))) ask
-        answer (streamOf s (now (asked .entry)) (now (answered .entry)) (now (out .entry)) (now (log .entry))) c ⌝ }
-{
-    if c == b'\n' {
-        let import = line_ends(s, ask, answer, asked, answered, out, log);
-        return Stream {
-            reader: candump::begin(),
-            import: import,
-        };
-    }
-    let reader = s.reader;
-    let import = s.import;
-    Stream {
-        reader: candump::next(reader, c),
-        import: import,
-    }
-}
-
 // The next bytes of a text. Messages under way stand in `asked` and `answered`, the lines to be written at the front of `out`, the events for a
 // log and their replies in `log`.
 pub fn read_on(
@@ -505,13 +477,39 @@ pub fn read_on(
     ensures { λ r. ⌜ streamOf r (now (asked .exit)) (now (answered .exit)) (now (out .exit)) (now (log .exit)) ≡ bytes (length (now (out .entry))) ask
         answer (streamOf s (now (asked .entry)) (now (answered .entry)) (now (out .entry)) (now (log .entry))) (now (chunk .entry)) ⌝ }
 {
-    let mut r = s;
+    let mut reader = s.reader;
+    let mut import = s.import;
     let mut i = 0;
     while i < chunk.len() {
-        r = byte(r, chunk[i], ask, answer, asked, answered, out, log);
+        let c = chunk[i];
+        if c == b'\n' {
+            let whole = Stream {
+                reader: reader,
+                import: import,
+            };
+            import = line_ends(whole, ask, answer, asked, answered, out, log);
+            reader = candump::begin();
+        } else {
+            reader = candump::next(reader, c);
+        }
         i += 1;
     }
-    r
+    Stream {
+        reader: reader,
+        import: import,
+    }
+}
+
+// Whether nothing that follows changes what comes of the text (`importing/proofs/Settles.settles`). Refusals 15 and 17 are never due before its end.
+pub fn settled(s: Stream) -> bool
+    ensures { λ r. ⌜ r ≡ settledIn s ⌝ }
+{
+    let reader = s.reader;
+    let lines = s.import;
+    if lines.refused != 0 {
+        return true;
+    }
+    candump::hopeless(reader)
 }
 
 // Of so many lines at which a message was given up, those that are not kept.

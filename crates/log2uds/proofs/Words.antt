@@ -1,32 +1,14 @@
--- A word read byte by byte, and texts at the front of a buffer.
+-- Texts at the front of a buffer, and behind what stands there.
 use Prim.Native.Nat.{ℕ, _+_, _≤_, _<_, _^_}
-use native.Mathlib.Numerals.{add-one}
 use native.Mathlib.Omega.{arith}
-use mathlib.Core.Bool.{true}
 use mathlib.Core.List.{List, [], _∷_, _++_}
 use mathlib.Core.Path.{_≡_, refl, sym, _∙_, ap}
-use lib.ListN.{length, getD, take, drop, length-append}
-use lib.Seq.{take-suc, take-at}
-use borrow.Author.Tests.{le-leb}
+use lib.ListN.{length, take, drop, length-append, length-take}
+use lib.Seq.{take-at, length-take-le}
 use Rattle.rules.specs.Lines.{ascii, decimal}
 use Rattle.text.specs.Written.{put, Put, Appended, counted, item}
 use Rattle.text.proofs.Numerals.{digits, item-length}
 use Rattle.text.proofs.Writing.{then, was-put}
-use Rattle.candump.specs.Reading.{next, readOn}
-use Rattle.candump.specs.declared.Reader.{Reader}
-
--- One byte more.
-read-behind : (r : Reader) (c : ℕ) (t : List ℕ) → readOn r (t ++ (c ∷ [])) ≡ next (readOn r t) c
-unfolding readOn
-read-behind r c [] = refl
-read-behind r c (x ∷ t) = read-behind (next r x) c t
-
-pub one-more : (r : Reader) (t : List ℕ) (i : ℕ) → i < length t → next (readOn r (take i t)) (getD t i 0) ≡ readOn r (take (i + 1) t)
-one-more r t i h = sym (rw (add-one i, take-suc t i 0 h) (read-behind r (getD t i 0) (take i t)))
-
-pub none-read : (r : Reader) → r ≡ readOn r []
-unfolding readOn
-none-read r = refl
 
 -- Every number of 64 bits has at most 20 digits.
 long : (n : ℕ) → n < 2 ^ 64 → length (decimal n) ≤ 20
@@ -51,3 +33,19 @@ module _ (out : List ℕ) (room : 60 ≤ length out) where
       let end = first .next in
       let second = was-put (item [] line []) m r (omega (arith, item-length [] [] line, long line small′)) q in
       front out after (counted (ascii "refused") n ++ item [] line []) s (then (omega arith) first second)
+
+-- Behind what stands there.
+pub told-behind : (out word : List ℕ) (at n r : ℕ) (after : List ℕ) → at + 60 ≤ length out → length word ≤ 38 → n < 2 ^ 64 →
+    Appended (item word n []) out at r after →
+    take r after ≡ take at out ++ item word n []
+unfolding put
+told-behind out word at n r after room short small p =
+    let bs = item word n [] in
+    let q = was-put bs out at (omega (arith, item-length word [] n, long n small)) p in
+    let size : length (take at out ++ bs) ≡ r =
+    length-append (take at out) bs ∙ ap (λ (k : ℕ). k + length bs) (length-take-le at out (omega arith)) ∙ sym (q .next) in
+    rw (q .line) (take-at (take at out ++ bs) (drop (at + length bs) out) r size)
+
+-- A part of a buffer is no longer than the buffer.
+pub part-short : (n : ℕ) (l : List ℕ) {p : List ℕ} → p ≡ take n (drop 0 l) → length p ≤ length l
+part-short n l e = omega (arith, ap (length {A = ℕ}) e, length-take n l)

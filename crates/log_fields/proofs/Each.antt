@@ -1,5 +1,5 @@
--- What holds of each field of a log: its number stands at its place, there is a number that it could be, and its name is short.
-use Prim.Native.Nat.{ℕ, zero, suc, _+_, _*_, _/_, _%_, _≤_, _<_}
+-- What holds of each field of a log: its number stands at its place, its name is short, and what it should be can stand there where the fields before it are right.
+use Prim.Native.Nat.{ℕ, zero, suc, _+_, _-_, _*_, _/_, _%_, _≤_, _<_}
 use native.Mathlib.Omega.{arith}
 use mathlib.Core.Bool.{Bool, true, false, cond, _||_}
 use mathlib.Core.List.{List, [], _∷_, _++_}
@@ -11,25 +11,16 @@ use lib.Seq.{getD-take, getD-drop}
 use borrow.Author.Tests.{leb-true}
 use Rattle.rules.specs.Bytes.{u16At, every}
 use Rattle.rules.specs.Conversations.{Every}
-use Rattle.rules.specs.Events.{Form, plain, addressed, eventSize, Entry, entryAt, entriesFrom}
+use Rattle.rules.specs.Events.{Form, plain, addressed, eventSize, Entry, entryAt, entriesFrom, entries}
 use Rattle.rules.specs.Lines.{ascii, digit, decimalTo, decimal}
-use Rattle.rules.specs.Logs.{Header, formIn, headerOf, Uses, nothing, usesByCall, usesOf, listensAt9, area, eventBytes}
-use Rattle.rules.proofs.Judging.{both}
-use Rattle.log_fields.specs.Fields.{numberAt, Field, zeroWhere, nine, heading, entryFields, entriesFields, eventFields, fields}
-use Rattle.log_fields.specs.Promises.{UpTo}
-use Rattle.log_fields.proofs.Firsts.{all-append}
+use Rattle.rules.specs.Logs.{headerSize, Header, formIn, headerOf, Uses, nothing, usesByCall, usesOf, all, mostListens, listensAt9, area, eventBytes}
+use Rattle.rules.proofs.Judging.{both, Trues, trues}
+use Rattle.log_fields.specs.Fields.{numberAt, widest, Field, zeroWhere, nine, heading, entryFields, entriesFields, eventFields, fields}
+use Rattle.log_fields.specs.Promises.{UpTo, Under, Possible}
+use Rattle.log_fields.proofs.Firsts.{all-append, Along, along-append}
 
 abbrev pub Fine : List ℕ → Field → Type 0
-Fine l f = (f .found ≡ numberAt (f .read) l (f .at)) × UpTo (f .least) (f .most) × (length (f .name) ≤ 34)
-
--- Where data must be present, it may.
-needs-fit : (c : ℕ) → usesOf c .must ≤ usesOf c .may
-needs-fit c = leb-true (usesOf c .must) (usesOf c .may) (row usesByCall refl c)
-  where
-    row : (us : List Uses) → every (λ u. leb (u .must) (u .may)) us ≡ true → (i : ℕ) → leb (getD us i nothing .must) (getD us i nothing .may) ≡ true
-    row [] e i = refl
-    row (u ∷ us) e zero = both (leb (u .must) (u .may)) _ e .0
-    row (u ∷ us) e (suc i) = row us (both (leb (u .must) (u .may)) _ e .1) i
+Fine l f = (f .found ≡ numberAt (f .read) l (f .at)) × (length (f .name) ≤ 34)
 
 nine-stands : (form : Form) (l : List ℕ) → listensAt9 form l ≡ numberAt (nine form) l 9
 nine-stands plain l = refl
@@ -37,46 +28,155 @@ nine-stands addressed l = refl
 
 header-fine : (l : List ℕ) → let h = headerOf l in Every (Fine l) (heading h (length l))
 header-fine l =
-    let h = headerOf l in
-    let fit = needs-fit (h .call) in (
-      (refl, tt, omega arith),
+    let h = headerOf l in (
+      (refl, omega arith),
       (
-        (refl, omega arith, omega arith),
+        (refl, omega arith),
         (
-          (refl, omega arith, omega arith),
+          (refl, omega arith),
           (
-            (refl, omega arith, omega arith),
+            (refl, omega arith),
             (
-              (refl, omega arith, omega arith),
+              (refl, omega arith),
               (
-                (refl, omega arith, omega arith),
+                (refl, omega arith),
                 (
-                  (refl, omega arith, omega arith),
+                  (refl, omega arith),
                   (
-                    (refl, omega arith, omega arith),
+                    (refl, omega arith),
                     (
-                      (refl, omega arith, omega arith),
+                      (refl, omega arith),
                       (
-                        (nine-stands (formIn h) l, omega arith, omega arith),
+                        (nine-stands (formIn h) l, omega arith),
                         (
-                          (refl, omega arith, omega arith),
+                          (refl, omega arith),
                           (
-                            (refl, omega arith, omega arith),
+                            (refl, omega arith),
                             (
-                              (refl, omega arith, omega arith),
+                              (refl, omega arith),
                               (
-                                (refl, omega arith, omega arith),
+                                (refl, omega arith),
                                 (
-                                  (refl, omega arith, omega arith),
+                                  (refl, omega arith),
                                   (
-                                    (refl, omega arith, omega arith),
+                                    (refl, omega arith),
                                     (
-                                      (refl, omega arith, omega arith),
-                                      tt,
+                                      (refl, omega arith),
+                                      (
+                                        (refl, omega arith),
+                                        (
+                                          (refl, omega arith),
+                                          tt,
+                                        ),
+                                      ),
                                     ),
                                   ),
                                 ),
                               ),
+                            ),
+                          ),
+                        ),
+                      ),
+                    ),
+                  ),
+                ),
+              ),
+            ),
+          ),
+        ),
+      ),
+    )
+
+-- What a call uses of a header can stand there: where data must be present, it may; no call has a sub-function both always and by flag 16.
+abbrev tests : Uses → List Bool
+tests u =
+    leb (u .must) (u .may) ∷
+    leb (u .may) 1 ∷
+    leb (u .named) 1 ∷
+    leb (u .value) 65535 ∷
+    leb (u .sub + u .named * 255) 255 ∷
+    leb (u .lengths) 255 ∷ []
+
+fits : (c : ℕ) → Trues (tests (usesOf c))
+fits c = trues (tests (usesOf c)) (row usesByCall refl c)
+  where
+    row : (us : List Uses) → every (λ u. all (tests u)) us ≡ true → (i : ℕ) → all (tests (getD us i nothing)) ≡ true
+    row [] e i = refl
+    row (u ∷ us) e zero = both (all (tests u)) _ e .0
+    row (u ∷ us) e (suc i) = row us (both (all (tests u)) _ e .1) i
+
+nine-possible : (form : Form) → (0 ≤ mostListens form) × UpTo 0 (widest (nine form)) × UpTo (mostListens form) (widest (nine form))
+nine-possible plain = (omega arith, omega arith, omega arith)
+nine-possible addressed = (omega arith, omega arith, omega arith)
+
+small-header : (form : Form) → headerSize form ≤ 37
+small-header plain = omega arith
+small-header addressed = omega arith
+
+fewer : (form : Form) (n : ℕ) → n / eventSize form ≤ n
+fewer plain n = omega arith
+fewer addressed n = omega arith
+
+at-most : (form : Form) (k n : ℕ) → k ≤ n / eventSize form → k * eventSize form ≤ n
+at-most plain k n h = omega arith
+at-most addressed k n h = omega arith
+
+header-possible : (h : Header) (n : ℕ) → Along Possible (heading h n)
+header-possible h n =
+    let fit = fits (h .call) in
+    let u = usesOf (h .call) in
+    let must = leb-true (u .must) (u .may) (fit .0) in
+    let may = leb-true (u .may) 1 (fit .1 .0) in
+    let named = leb-true (u .named) 1 (fit .1 .1 .0) in
+    let value = leb-true (u .value) 65535 (fit .1 .1 .1 .0) in
+    let sub = leb-true (u .sub + u .named * 255) 255 (fit .1 .1 .1 .1 .0) in
+    let lengths = leb-true (u .lengths) 255 (fit .1 .1 .1 .1 .1 .0) in
+    let small = small-header (formIn h) in (
+      (tt, tt, tt),
+      λ right-headed. (
+        (omega arith, omega arith, omega arith),
+        λ right-version. (
+          (omega arith, omega arith, omega arith),
+          λ right-call. (
+            (omega arith, omega arith, omega arith),
+            λ right-flags. (
+              (omega arith, omega arith, omega arith),
+              λ right-flag. (
+                (omega arith, omega arith, omega arith),
+                λ right-value. (
+                  (omega arith, omega arith, omega arith),
+                  λ right-sub. (
+                    (omega arith, omega arith, omega arith),
+                    λ right-address. (
+                      (omega arith, omega arith, omega arith),
+                      λ right-size. (
+                        nine-possible (formIn h),
+                        λ right-listens. (
+                          (omega (arith, small), omega (arith, small), omega arith),
+                          λ right-arguments. (
+                            (omega arith, omega (arith, small), omega (arith, small)),
+                            λ right-begins. (
+                              (omega arith, omega arith, omega (arith, fewer (formIn h) (65535 - (headerSize (formIn h) + h .arguments)))),
+                              λ right-events.
+                                  let these = at-most (formIn h) (h .events) (65535 - (headerSize (formIn h) + h .arguments)) (right-events .1) in (
+                                    (omega arith, omega (arith, small), omega (arith, small)),
+                                    λ right-eventsAt. (
+                                      (omega arith, omega arith, omega arith),
+                                      λ right-replies. (
+                                        (omega arith, omega (arith, small, these), omega (arith, small, these)),
+                                        λ right-repliesAt. (
+                                          (omega arith, omega (arith, small, these), omega (arith, small, these)),
+                                          λ right-total. (
+                                            (omega arith, omega arith, omega arith),
+                                            λ right-overall. (
+                                              (omega arith, tt, tt),
+                                              λ right-file. tt,
+                                            ),
+                                          ),
+                                        ),
+                                      ),
+                                    ),
+                                  ),
                             ),
                           ),
                         ),
@@ -117,9 +217,15 @@ pub in-area : (form : Form) (i n : ℕ) → i < n / eventSize form → i * event
 in-area plain i n h = omega arith
 in-area addressed i n h = omega arith
 
-could-be : (t : Bool) → UpTo 0 (zeroWhere t)
-could-be true = omega arith
-could-be false = tt
+could-be : (t : Bool) → UpTo 0 (zeroWhere t) × (0 ≤ 65535) × Under (zeroWhere t) (some 65535)
+could-be true = (omega arith, omega arith, omega arith)
+could-be false = (tt, omega arith, tt)
+
+entries-possible : (form : Form) (at i : ℕ) (es : List Entry) → Every Possible (entriesFields form at i es)
+entries-possible form at i [] = tt
+entries-possible form at i (e ∷ es) =
+    let silent = eqb (e .kind) 1 || eqb (e .kind) 2 in
+    (could-be (silent || eqb (e .kind) 3), (could-be silent, entries-possible form at (suc i) es))
 
 module _ (l : List ℕ) (form : Form) (at m : ℕ) where
   abbrev bs : List ℕ
@@ -129,13 +235,11 @@ module _ (l : List ℕ) (form : Form) (at m : ℕ) where
   unfolding entriesFrom
   events-fine zero i h = tt
   events-fine (suc k) i h =
-      let e = entryAt form bs i in
-      let silent = eqb (e .kind) 1 || eqb (e .kind) 2 in
       let inner = in-area form i (length bs) (omega arith) in
       let short = twenty (i + 1) in (
-        (pair-in l at m (i * eventSize form + 6) (at + i * eventSize form + 6) (omega arith) (omega arith), could-be (silent || eqb (e .kind) 3), simp length-append (omega arith)),
+        (pair-in l at m (i * eventSize form + 6) (at + i * eventSize form + 6) (omega arith) (omega arith), simp length-append (omega arith)),
         (
-          (pair-in l at m (i * eventSize form + 8) (at + i * eventSize form + 8) (omega arith) (omega arith), could-be silent, simp length-append (omega arith)),
+          (pair-in l at m (i * eventSize form + 8) (at + i * eventSize form + 8) (omega arith) (omega arith), simp length-append (omega arith)),
           events-fine k (suc i) (omega arith),
         ),
       )
@@ -146,3 +250,9 @@ all-fine l =
     let bs = eventBytes h l in
     all-append (Fine l) (heading h (length l)) (eventFields h l) (header-fine l)
     (events-fine l (formIn h) (h .eventsAt) (h .events * eventSize (formIn h)) (length bs / eventSize (formIn h)) 0 (omega arith))
+
+pub all-possible : (l : List ℕ) → Along Possible (fields l)
+all-possible l =
+    let h = headerOf l in
+    along-append Possible (heading h (length l)) (eventFields h l) (header-possible h (length l))
+    (entries-possible (formIn h) (h .eventsAt) 0 (entries (formIn h) (eventBytes h l)))

@@ -110,6 +110,25 @@ of-first P (g ∷ fs) f p e = go (inside g) (of-first P fs f (p .1)) e
     go true later e = later e
     go false later e = let s : g ≡ f = cc in subst P s (p .0)
 
+-- What holds of each field where those before it are right.
+abbrev pub Along : (Field → Type 0) → List Field → Type 0
+Along P [] = Unit {0}
+Along P (f ∷ fs) = P f × (Right f → Along P fs)
+
+pub along-append : (P : Field → Type 0) (a b : List Field) → Along P a → Every P b → Along P (a ++ b)
+along-append P [] [] p q = tt
+along-append P [] (f ∷ b) p q = (q .0, λ r. along-append P [] b tt (q .1))
+along-append P (f ∷ a) b p q = (p .0, λ r. along-append P a b (p .1 r) q)
+
+-- Those before the first that is off are right.
+pub of-first-along : (P : Field → Type 0) (fs : List Field) (f : Field) → Along P fs → first fs ≡ some f → P f
+of-first-along P [] f p e = let z : _≡_ {A = Bool} true false = ap none? e in absurd (false≢true (sym z))
+of-first-along P (g ∷ fs) f p e = go (inside g) refl (λ r. of-first-along P fs f (p .1 r)) e
+  where
+    go : (t : Bool) → inside g ≡ t → (Right g → first fs ≡ some f → P f) → cond t (first fs) (some g) ≡ some f → P f
+    go true i later e = later (right g i) e
+    go false i later e = let s : g ≡ f = cc in subst P s (p .0)
+
 -- Two tests of which each passes where the other does are one.
 pub alike : (a b : Bool) → (a ≡ true → b ≡ true) → (b ≡ true → a ≡ true) → a ≡ b
 alike true b f g = sym (f refl)

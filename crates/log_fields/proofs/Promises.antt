@@ -9,10 +9,10 @@ use lib.Dec.{eqb}
 use lib.ListN.{length, length-append}
 use Rattle.rules.specs.Lines.{ascii, decimal}
 use Rattle.log_fields.specs.Fields.{Read, whole, bit, byte, pair, four, Field, fields, firstOff}
-use Rattle.log_fields.specs.Promises.{Tells, Longest, Promises}
+use Rattle.log_fields.specs.Promises.{Possible, Tells, Longest, Promises}
 use Rattle.log_fields.specs.Words.{should, holds, found, offText, textOf, offLine}
 use Rattle.log_fields.proofs.Firsts as firsts
-use Rattle.log_fields.proofs.Each.{Fine, twenty, all-fine}
+use Rattle.log_fields.proofs.Each.{Fine, twenty, all-fine, all-possible}
 use Rattle.log_fields.proofs.Tests.{decides}
 
 pub tells : Tells
@@ -27,7 +27,7 @@ tells l f e =
       behind = at .behind;
       among = at .among;
       sound = at .sound;
-      possible = fine .1;
+      possible = firsts.of-first-along Possible (fields l) f (all-possible l) e;
     }
 
 holds-long : (at n : ℕ) → length (holds at n) ≤ 67
@@ -64,7 +64,7 @@ longest l = go (firstOff l) refl
   where
     go : (o : Option Field) → firstOff l ≡ o → length (textOf o) ≤ 163
     go none e = omega arith
-    go (some f) e = text-long f (firsts.of-first (Fine l) (fields l) f (all-fine l) e .2)
+    go (some f) e = text-long f (firsts.of-first (Fine l) (fields l) f (all-fine l) e .1)
 
 pub promises : Promises
 promises = record { decides = decides; tells = tells; longest = longest }

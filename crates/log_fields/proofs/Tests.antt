@@ -1,5 +1,5 @@
 -- The tests of the layout, and those of the fields: the same, in another order.
-use Prim.Native.Nat.{ℕ, zero, suc, _+_, _*_, _/_, _%_, _≤_}
+use Prim.Native.Nat.{ℕ, zero, suc, _+_, _-_, _*_, _/_, _%_, _≤_, min}
 use native.Mathlib.Omega.{arith}
 use mathlib.Core.Bool.{Bool, true, false, cond, _&&_, _||_, and-true}
 use mathlib.Core.List.{List, [], _∷_, _++_}
@@ -8,13 +8,14 @@ use mathlib.Core.Path.{_≡_, refl, sym, _∙_, ap, ap₂}
 use lib.Dec.{leb, eqb}
 use lib.ListN.{length}
 use borrow.Author.Tests.{leb-true, le-leb, eqb-true, eq-eqb, eqb-false, lt-leb, ne-eqb}
-use Rattle.rules.specs.Bytes.{every}
+use Rattle.rules.specs.Bytes.{u16At, every}
 use Rattle.rules.specs.Conversations.{Every}
-use Rattle.rules.specs.Events.{Form, Entry, eventSize, entries}
-use Rattle.rules.specs.Logs.{Header, headerSize, formIn, headerOf, Uses, flag, usesOf, mostListens, all, areasOk, fieldsOk, eventOk, eventBytes, laidOut, layoutOk}
+use Rattle.rules.specs.Events.{Form, plain, addressed, Entry, eventSize, entries}
+use Rattle.rules.specs.Logs.{moved, Header, headerSize, formIn, headerOf, Uses, flag, usesOf, mostListens, all, areasOk, fieldsOk, eventOk, eventBytes, laidOut, layoutOk}
 use Rattle.rules.proofs.Judging.{both, Trues, trues, trues-back}
+use Rattle.rules.proofs.Opened.{byte-at}
 use Rattle.log_fields.specs.Fields.{Field, atMost, zeroWhere, inside, heading, entryFields, entriesFields, eventFields, fields, first, firstOff}
-use Rattle.log_fields.specs.Promises.{none?, Right, Decides}
+use Rattle.log_fields.specs.Promises.{none?, Bytes, Right, Decides}
 use Rattle.log_fields.proofs.Firsts.{every-append, none-off, rights, insides, alike}
 
 -- Of an event: zero where it is unused.
@@ -56,6 +57,10 @@ either (suc zero) h l = refl
 either (suc (suc zero)) h l = refl
 either (suc (suc (suc v))) h l = absurd (omega arith)
 
+few-fit : (form : Form) (k at : ℕ) → at + k * eventSize form ≤ 65535 → k ≤ (65535 - at) / eventSize form
+few-fit plain k at h = omega arith
+few-fit addressed k at h = omega arith
+
 module _ (h : Header) (n : ℕ) where
   abbrev u : Uses
   u = usesOf (h .call)
@@ -88,9 +93,20 @@ module _ (h : Header) (n : ℕ) where
       leb both-lengths (h .arguments) ∷
       leb (h .arguments) (both-lengths + flag 32 h * 65535) ∷ []
 
-  forth : Trues front → Trues areas → Trues used → Every Right (heading h n)
-  forth f a t =
-      let v = one-or-two (h .version) (f .1 .0) in (
+  -- Two bytes hold where the areas begin, and where the last one ends.
+  abbrev Narrow : Type 0
+  Narrow = (h .eventsAt ≤ 65535) × (h .repliesAt ≤ 65535) × (h .total ≤ 65535)
+
+  forth : Narrow → Trues front → Trues areas → Trues used → Every Right (heading h n)
+  forth w f a t =
+      let v = one-or-two (h .version) (f .1 .0) in
+      let events-at = eqb-true (h .eventsAt) (headerSize (formIn h) + h .arguments) (a .1 .0) in
+      let replies-at = eqb-true (h .repliesAt) (h .eventsAt + h .events * eventSize (formIn h)) (a .1 .1 .0) in
+      let ends = eqb-true (h .total) (h .repliesAt + h .replies) (a .1 .1 .1 .0) in
+      let most = leb-true (h .arguments) (both-lengths + flag 32 h * 65535) (t .1 .1 .1 .1 .1 .1 .1 .1 .1 .1 .0) in
+      let at-arguments : h .arguments ≤ min (both-lengths + flag 32 h * 65535) (65535 - headerSize (formIn h)) = omega arith in
+      let at-events = few-fit (formIn h) (h .events) (headerSize (formIn h) + h .arguments) (omega arith) in
+      let at-replies : h .replies ≤ 65535 - (h .eventsAt + h .events * eventSize (formIn h)) = omega arith in (
         (omega (arith, leb-true), tt),
         (
           v,
@@ -111,20 +127,26 @@ module _ (h : Header) (n : ℕ) where
                         (
                           (omega arith, omega (arith, leb-true)),
                           (
-                            (omega (arith, leb-true), omega (arith, leb-true)),
+                            (omega (arith, leb-true), at-arguments),
                             (
                               (omega (arith, eqb-true), omega (arith, eqb-true)),
                               (
-                                (omega (arith, eqb-true), omega (arith, eqb-true)),
+                                (omega arith, at-events),
                                 (
                                   (omega (arith, eqb-true), omega (arith, eqb-true)),
                                   (
-                                    (omega (arith, eqb-true), omega (arith, eqb-true)),
+                                    (omega arith, at-replies),
                                     (
-                                      (omega arith, omega (arith, leb-true)),
+                                      (omega (arith, eqb-true), omega (arith, eqb-true)),
                                       (
                                         (omega (arith, eqb-true), omega (arith, eqb-true)),
-                                        tt,
+                                        (
+                                          (omega arith, omega (arith, leb-true)),
+                                          (
+                                            (omega (arith, eqb-true), omega (arith, eqb-true)),
+                                            tt,
+                                          ),
+                                        ),
                                       ),
                                     ),
                                   ),
@@ -192,6 +214,12 @@ module _ (h : Header) (n : ℕ) where
     ),
   )
 
+narrow : (l : List ℕ) → Bytes l → Narrow (headerOf l) (length l)
+narrow l bytes =
+    let pair : (i : ℕ) → u16At l i ≤ 65535 = λ i. omega (arith, byte-at l bytes i, byte-at l bytes (i + 1)) in
+    let m = moved (formIn (headerOf l)) in
+    (pair (16 + m), pair (20 + m), pair (22 + m))
+
 -- Of a log: from one list of tests to the other and back; the events' stand in both.
 module _ (l : List ℕ) where
   abbrev h : Header
@@ -205,13 +233,13 @@ module _ (l : List ℕ) where
       every-append inside (heading h (length l)) (eventFields h l) ∙
       ap (λ (t : Bool). every inside (heading h (length l)) && t) (event-tests (formIn h) (h .eventsAt) 0 (entries (formIn h) (eventBytes h l)))
 
-  passes : layoutOk l ≡ true → every inside (fields l) ≡ true
+  passes : Bytes l → layoutOk l ≡ true → every inside (fields l) ≡ true
   unfolding layoutOk
-  passes e =
+  passes bytes e =
       let b = both (laidOut h l) (fieldsOk h (usesOf (h .call))) e in
       let t = trues (leb (headerSize (formIn h)) (length l) ∷ (eqb (h .version) 1 || eqb (h .version) 2) ∷ leb (h .call) 15 ∷ areasOk h (length l) ∷ events ∷ []) (b .0) in
       let r =
-      forth h (length l) (t .0, (t .1 .0, (t .1 .1 .0, tt))) (trues (areas h (length l)) (t .1 .1 .1 .0)) (trues (used h (length l)) (b .1))
+      forth h (length l) (narrow l bytes) (t .0, (t .1 .0, (t .1 .1 .0, tt))) (trues (areas h (length l)) (t .1 .1 .1 .0)) (trues (used h (length l)) (b .1))
       in
       in-order ∙ rw (insides (heading h (length l)) r) (t .1 .1 .1 .1 .0)
 
@@ -228,4 +256,4 @@ module _ (l : List ℕ) where
 
 pub decides : Decides
 unfolding firstOff
-decides l = alike (layoutOk l) (every inside (fields l)) (passes l) (sound l) ∙ sym (none-off (fields l))
+decides l bytes = alike (layoutOk l) (every inside (fields l)) (passes l bytes) (sound l) ∙ sym (none-off (fields l))

@@ -1,5 +1,5 @@
 -- Document 01, "The log and `udslog`", test by test: each as a field of the log, the number found there, and between which numbers it should lie.
-use Prim.Native.Nat.{ℕ, suc, _+_, _*_, _/_, _%_}
+use Prim.Native.Nat.{ℕ, suc, _+_, _-_, _*_, _/_, _%_, min}
 use Prim.Native.String.{String}
 use mathlib.Core.Bool.{Bool, true, false, cond, _&&_, _||_}
 use mathlib.Core.List.{List, [], _∷_, _++_}
@@ -25,6 +25,14 @@ numberAt (bit weight) l at = getD l at 0 / weight % 2
 numberAt byte l at = getD l at 0
 numberAt pair l at = u16At l at
 numberAt four l at = u32At l at
+
+-- The largest number that can stand so; a log's own length has none.
+abbrev pub widest : Read → Option ℕ
+widest whole = none
+widest (bit weight) = some 1
+widest byte = some 255
+widest pair = some 65535
+widest four = some 4294967295
 
 -- A field: its name, how it is read and from which index on, the number found there, and what it should be: at least so much, and at most, if there is a most.
 pub record Field : Type 0 where
@@ -61,7 +69,8 @@ nine addressed = pair
 abbrev pub headed : Header → ℕ → Field
 headed h n = field (ascii "the file") whole 0 n (headerSize (formIn h)) none
 
--- The fields of a header that a test speaks of, as they stand in a log of n bytes; behind them the log's own length, which the total says.
+-- The fields of a header that a test speaks of, as they stand in a log of n bytes; behind them the log's own length, which the total says. Where an area begins, and
+-- where the last one ends, stands in two bytes: a count for which these are too few is off itself, and not the offset behind it.
 abbrev pub headerFields : Header → Uses → ℕ → List Field
 headerFields h u n =
     let m = moved (formIn h) in
@@ -76,9 +85,11 @@ headerFields h u n =
     between "address-length" byte 7 (h .addressLength) 0 (u .lengths) ∷
     between "size-length" byte 8 (h .sizeLength) 0 (u .lengths) ∷
     between "listening-address" (nine (formIn h)) 9 (h .listens) 0 (mostListens (formIn h)) ∷
-    between "arguments-count" pair (10 + m) (h .arguments) lengths (lengths + flag 32 h * 65535) ∷
+    between "arguments-count" pair (10 + m) (h .arguments) lengths (min (lengths + flag 32 h * 65535) (65535 - size)) ∷
     exactly "arguments-offset" pair (12 + m) (h .argumentsAt) size ∷
+    between "events-count" pair (14 + m) (h .events) 0 ((65535 - (size + h .arguments)) / eventSize (formIn h)) ∷
     exactly "events-offset" pair (16 + m) (h .eventsAt) (size + h .arguments) ∷
+    between "replies-count" pair (18 + m) (h .replies) 0 (65535 - (h .eventsAt + h .events * eventSize (formIn h))) ∷
     exactly "replies-offset" pair (20 + m) (h .repliesAt) (h .eventsAt + h .events * eventSize (formIn h)) ∷
     exactly "total" pair (22 + m) (h .total) (h .repliesAt + h .replies) ∷
     between "T" four (32 + m) (h .overall) 0 (flag 8 h * 4294967295) ∷

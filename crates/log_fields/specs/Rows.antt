@@ -52,12 +52,22 @@ headers =
     wrong2 ((9, 255) ∷ (10, 255) ∷ []) "" ∷
     wrong ((11, 1) ∷ []) "This is no log: arguments-count (byte 10) is 1 and should be 0.\n" ∷
     wrong2 ((12, 1) ∷ []) "This is no log: arguments-count (byte 11) is 1 and should be 0.\n" ∷
-    (logOf 6 0x21 0 0 1 2 0 (0x20 ∷ 0x10 ∷ []) [], "This is no log: arguments-count (byte 10) is 2 and should be 3 to 65538.\n") ∷
+    (logOf 6 0x21 0 0 1 2 0 (0x20 ∷ 0x10 ∷ []) [], "This is no log: arguments-count (byte 10) is 2 and should be 3 to 65499.\n") ∷
+    (logOf 6 0x21 0 0 1 2 0 (0x20 ∷ []) [], "This is no log: arguments-count (byte 10) is 1 and should be 3 to 65499.\n") ∷
+    (changed ((10, 255) ∷ (11, 220) ∷ []) (logOf 3 0x21 0 2 0 0 0 [] []), "This is no log: arguments-count (byte 10) is 65500 and should be 0 to 65499.\n") ∷
     wrong ((13, 37) ∷ []) "This is no log: arguments-offset (byte 12) is 37 and should be 36.\n" ∷
     wrong2 ((14, 36) ∷ []) "This is no log: arguments-offset (byte 13) is 36 and should be 37.\n" ∷
+    wrong ((14, 255) ∷ (15, 255) ∷ []) "This is no log: events-count (byte 14) is 65535 and should be 0 to 6549.\n" ∷
+    wrong ((14, 0x19) ∷ (15, 0x96) ∷ []) "This is no log: events-count (byte 14) is 6550 and should be 0 to 6549.\n" ∷
+    wrong ((14, 0x19) ∷ (15, 0x95) ∷ []) "This is no log: replies-offset (byte 20) is 56 and should be 65526.\n" ∷
+    wrong2 ((15, 255) ∷ (16, 255) ∷ []) "This is no log: events-count (byte 15) is 65535 and should be 0 to 5458.\n" ∷
     wrong ((17, 56) ∷ []) "This is no log: events-offset (byte 16) is 56 and should be 36.\n" ∷
     (changed ((17, 36) ∷ []) (logOf 3 0x21 0 2 0 0 0 (1 ∷ 2 ∷ []) []), "This is no log: events-offset (byte 16) is 36 and should be 38.\n") ∷
     wrong2 ((18, 56) ∷ []) "This is no log: events-offset (byte 17) is 56 and should be 37.\n" ∷
+    wrong ((18, 255) ∷ (19, 255) ∷ []) "This is no log: replies-count (byte 18) is 65535 and should be 0 to 65479.\n" ∷
+    wrong ((18, 255) ∷ (19, 200) ∷ []) "This is no log: replies-count (byte 18) is 65480 and should be 0 to 65479.\n" ∷
+    wrong ((18, 255) ∷ (19, 199) ∷ []) "This is no log: total (byte 22) is 64 and should be 65535.\n" ∷
+    wrong2 ((19, 255) ∷ (20, 255) ∷ []) "This is no log: replies-count (byte 19) is 65535 and should be 0 to 65462.\n" ∷
     wrong ((21, 57) ∷ []) "This is no log: replies-offset (byte 20) is 57 and should be 56.\n" ∷
     wrong2 ((22, 67) ∷ []) "This is no log: replies-offset (byte 21) is 67 and should be 73.\n" ∷
     wrong ((19, 7) ∷ []) "This is no log: total (byte 22) is 64 and should be 63.\n" ∷
@@ -92,8 +102,10 @@ inOrder =
     wrong ((8, 2) ∷ (9, 1) ∷ []) "This is no log: size-length (byte 8) is 2 and should be 0.\n" ∷
     wrong ((9, 2) ∷ (11, 1) ∷ []) "This is no log: listening-address (byte 9) is 2 and should be 0.\n" ∷
     wrong ((11, 2) ∷ (13, 1) ∷ []) "This is no log: arguments-count (byte 10) is 2 and should be 0.\n" ∷
-    wrong ((13, 2) ∷ (17, 1) ∷ []) "This is no log: arguments-offset (byte 12) is 2 and should be 36.\n" ∷
-    wrong ((17, 2) ∷ (21, 1) ∷ []) "This is no log: events-offset (byte 16) is 2 and should be 36.\n" ∷
+    wrong ((13, 2) ∷ (14, 255) ∷ []) "This is no log: arguments-offset (byte 12) is 2 and should be 36.\n" ∷
+    wrong ((14, 255) ∷ (17, 1) ∷ []) "This is no log: events-count (byte 14) is 65282 and should be 0 to 6549.\n" ∷
+    wrong ((17, 2) ∷ (18, 255) ∷ []) "This is no log: events-offset (byte 16) is 2 and should be 36.\n" ∷
+    wrong ((18, 255) ∷ (19, 255) ∷ (21, 1) ∷ []) "This is no log: replies-count (byte 18) is 65535 and should be 0 to 65479.\n" ∷
     wrong ((21, 2) ∷ (23, 1) ∷ []) "This is no log: replies-offset (byte 20) is 2 and should be 56.\n" ∷
     wrong ((23, 2) ∷ (35, 1) ∷ []) "This is no log: total (byte 22) is 2 and should be 64.\n" ∷
     (take 63 (changed ((35, 1) ∷ []) log), "This is no log: T (byte 32) is 1 and should be 0.\n") ∷

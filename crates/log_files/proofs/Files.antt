@@ -12,7 +12,7 @@ use Rattle.rules.specs.Logs.{lineOf}
 use Rattle.log_files.specs.Files.{size, first, rest, linesTo, linesOf}
 
 -- What is behind a log is shorter than a file that begins with it.
-shorter : (file : List ℕ) (n : ℕ) → length file ≤ suc n → length (rest file) ≤ n
+pub shorter : (file : List ℕ) (n : ℕ) → length file ≤ suc n → length (rest file) ≤ n
 shorter file n h = omega (arith, length-drop (4 + size file) file)
 
 -- As many lines as bytes are enough, and more change nothing.

@@ -123,7 +123,15 @@ module _ (l : List ℕ) (h : Header) (is : h ≡ headerOf l) where
                               (
                                 refl,
                                 (λ at k. refl),
-                                tt,
+                                (
+                                  refl,
+                                  (λ at k. refl),
+                                  (
+                                    refl,
+                                    (λ at k. refl),
+                                    tt,
+                                  ),
+                                ),
                               ),
                             ),
                           ),
@@ -157,25 +165,25 @@ module _ (l : List ℕ) (h : Header) (is : h ≡ headerOf l) where
   headed-off s = sym (rw (le-leb (headerSize (formIn h)) (length l) s)) ∙ read-as
 
   module _ (long : headerSize (formIn h) ≤ length l) (i : ℕ) (found-first : i ≡ firstOf fs) where
-    at-row : i < 16 → offText (getD fs i none-such) ≡ offLine l
+    at-row : i < 18 → offText (getD fs i none-such) ≡ offLine l
     at-row s =
         let e : first (fs ++ eventFields h l) ≡ some (getD fs (firstOf fs) none-such) = first-at fs (eventFields h l) (omega arith) in
         rw found-first (sym (ap textOf e)) ∙ headed-off long
 
     -- A row of the header's fields.
-    pub row-line : i < 15 → (r : Numbers) → meant r ≡ rowOf h (usesOf (h .call)) (length l) i → (ascii "This is no log: " ++ getD names i [] ++ behind r) ≡ offLine l
+    pub row-line : i < 17 → (r : Numbers) → meant r ≡ rowOf h (usesOf (h .call)) (length l) i → (ascii "This is no log: " ++ getD names i [] ++ behind r) ≡ offLine l
     row-line s r e = line-of (getD fs i none-such) (getD names i []) r (named-at fs names i named (omega arith) (omega arith)) e ∙ at-row (omega arith)
 
     -- The file's length.
-    pub file-line : i ≡ 15 → fileText (length l) (h .total) (ascii ".\n") ≡ offLine l
+    pub file-line : i ≡ 17 → fileText (length l) (h .total) (ascii ".\n") ≡ offLine l
     unfolding offText
     file-line s =
-        let e : offText (getD fs 15 none-such) ≡ offLine l = ap (λ (k : ℕ). offText (getD fs k none-such)) (sym s) ∙ at-row (omega arith) in
+        let e : offText (getD fs 17 none-such) ≡ offLine l = ap (λ (k : ℕ). offText (getD fs k none-such)) (sym s) ∙ at-row (omega arith) in
         joins-file (ascii "This is no log: ") (ascii "the file") (ascii " has ") (decimal (length l)) (ascii " bytes and should have ") (decimal (h .total)) (ascii ".\n") ∙
         sym (rw (eq-eqb (h .total) (h .total) refl)) ∙
         e
 
     -- The events.
-    pub event-line : 16 ≤ i → {form : Form} {bs : List ℕ} → form ≡ formIn h → bs ≡ eventBytes h l → textOf (first (entriesFields form (h .eventsAt) 0 (entries form bs))) ≡ offLine l
+    pub event-line : 18 ≤ i → {form : Form} {bs : List ℕ} → form ≡ formIn h → bs ≡ eventBytes h l → textOf (first (entriesFields form (h .eventsAt) 0 (entries form bs))) ≡ offLine l
     event-line s {form} {bs} ef eb =
         rw (ef, eb) (sym (ap textOf (first-past fs (eventFields h l) (omega arith))) ∙ headed-off long)

@@ -49,7 +49,9 @@ names =
     ascii "listening-address" ∷
     ascii "arguments-count" ∷
     ascii "arguments-offset" ∷
+    ascii "events-count" ∷
     ascii "events-offset" ∷
+    ascii "replies-count" ∷
     ascii "replies-offset" ∷
     ascii "total" ∷
     ascii "T" ∷ []
@@ -58,7 +60,7 @@ names =
 abbrev pub inOne : List ℕ
 inOne =
     ascii "version call flags flag-16 value sub-function address-length size-length " ++
-    ascii "listening-address arguments-count arguments-offset events-offset replies-offset total T"
+    ascii "listening-address arguments-count arguments-offset events-count events-offset replies-count replies-offset total T"
 
 -- Behind a name.
 abbrev pub behind : Numbers → List ℕ

@@ -21,7 +21,7 @@ ghost use mathlib.Core.Bool.{false};
 ghost use mathlib.Core.List.{[], _++_, map};
 ghost use mathlib.Core.Option.{some};
 ghost use mathlib.Core.Path.{_≡_};
-ghost use Prim.Native.Nat.{_+_, _*_, _≤_, _<_};
+ghost use Prim.Native.Nat.{_+_, _-_, _*_, _≤_, _<_, min};
 ghost use lib.ListN.{getD, length};
 ghost use Rattle.rules.specs.Events.{eventSize, entries};
 ghost use Rattle.rules.specs.Lines.{ascii, decimal};
@@ -41,7 +41,7 @@ struct Numbers {
     most: u64,
 }
 
-// The rows of `headerFields` of `log_fields`, 0 to 15. Up to the listening address all stand where they do in either version.
+// The rows of `headerFields` of `log_fields`, 0 to 17. Up to the listening address all stand where they do in either version.
 fn used(h: Header, u: Uses, n: usize, i: usize) -> Numbers
     requires { ⌜ i < 9 ⌝ }
     ensures { λ r. ⌜ meant r ≡ rowOf (said h) (uses u) n i ⌝ }
@@ -105,9 +105,22 @@ fn used(h: Header, u: Uses, n: usize, i: usize) -> Numbers
     }
 }
 
+// What two bytes hold, behind so much.
+fn left_behind(taken: u64) -> u64
+    ensures { λ r. ⌜ r ≡ 65535 - taken ⌝ }
+{
+    if taken < 65535 { 65535 - taken } else { 0 }
+}
+
+fn smaller(a: u64, b: u64) -> u64
+    ensures { λ r. ⌜ r ≡ min a b ⌝ }
+{
+    if a < b { a } else { b }
+}
+
 // The rest stands further in version 2.
 fn placed(h: Header, n: usize, i: usize) -> Numbers
-    requires { ⌜ i < 7 ⌝ }
+    requires { ⌜ i < 9 ⌝ }
     ensures { λ r. ⌜ meant r ≡ rowOf (said h) (usesOf (h .call)) n (9 + i) ⌝ }
 {
     let form = form_in(h);
@@ -120,7 +133,7 @@ fn placed(h: Header, n: usize, i: usize) -> Numbers
                 at: 10 + moved,
                 found: h.arguments as u64,
                 least: both,
-                most: both + (h.flags / 32 % 2) as u64 * 65535,
+                most: smaller(both + (h.flags / 32 % 2) as u64 * 65535, left_behind(size)),
             }
         }
         1 => Numbers {
@@ -130,6 +143,15 @@ fn placed(h: Header, n: usize, i: usize) -> Numbers
             most: size,
         },
         2 => {
+            let begins = size + h.arguments as u64;
+            Numbers {
+                at: 14 + moved,
+                found: h.events as u64,
+                least: 0,
+                most: left_behind(begins) / event_size(form) as u64,
+            }
+        }
+        3 => {
             let should = size + h.arguments as u64;
             Numbers {
                 at: 16 + moved,
@@ -138,7 +160,16 @@ fn placed(h: Header, n: usize, i: usize) -> Numbers
                 most: should,
             }
         }
-        3 => {
+        4 => {
+            let begins = h.events_at as u64 + h.events as u64 * event_size(form) as u64;
+            Numbers {
+                at: 18 + moved,
+                found: h.replies as u64,
+                least: 0,
+                most: left_behind(begins),
+            }
+        }
+        5 => {
             let should = h.events_at as u64 + h.events as u64 * event_size(form) as u64;
             Numbers {
                 at: 20 + moved,
@@ -147,7 +178,7 @@ fn placed(h: Header, n: usize, i: usize) -> Numbers
                 most: should,
             }
         }
-        4 => {
+        6 => {
             let should = h.replies_at as u64 + h.replies as u64;
             Numbers {
                 at: 22 + moved,
@@ -156,7 +187,7 @@ fn placed(h: Header, n: usize, i: usize) -> Numbers
                 most: should,
             }
         }
-        5 => Numbers {
+        7 => Numbers {
             at: 32 + moved,
             found: h.overall as u64,
             least: 0,
@@ -173,7 +204,7 @@ fn placed(h: Header, n: usize, i: usize) -> Numbers
 
 // A row.
 fn row(h: Header, n: usize, i: usize) -> Numbers
-    requires { ⌜ i < 16 ⌝ }
+    requires { ⌜ i < 18 ⌝ }
     ensures { λ r. ⌜ meant r ≡ rowOf (said h) (usesOf (h .call)) n i ⌝ }
 {
     if i < 9 {
@@ -182,12 +213,12 @@ fn row(h: Header, n: usize, i: usize) -> Numbers
     placed(h, n, i - 9)
 }
 
-// Which row is the first that is off; 16 where none is.
+// Which row is the first that is off; 18 where none is.
 fn first_row(h: Header, n: usize) -> usize
     ensures { λ r. ⌜ r ≡ firstOf (headerFields (said h) (usesOf (h .call)) n) ⌝ }
 {
     let mut i = 0;
-    while i < 16 {
+    while i < 18 {
         let f = row(h, n, i);
         if f.found < f.least {
             return i;
@@ -246,10 +277,12 @@ fn name_at(i: usize) -> Span
         8 => Span(73, 17),
         9 => Span(91, 15),
         10 => Span(107, 16),
-        11 => Span(124, 13),
-        12 => Span(138, 14),
-        13 => Span(153, 5),
-        14 => Span(159, 1),
+        11 => Span(124, 12),
+        12 => Span(137, 13),
+        13 => Span(151, 13),
+        14 => Span(165, 14),
+        15 => Span(180, 5),
+        16 => Span(186, 1),
         _ => Span(0, 0),
     }
 }
@@ -261,7 +294,7 @@ fn put_name(text: &mut [u8], at: usize, i: usize) -> usize
     let from = s.0;
     let len = s.1;
     let all =
-        b"version call flags flag-16 value sub-function address-length size-length listening-address arguments-count arguments-offset events-offset replies-offset total T";
+        b"version call flags flag-16 value sub-function address-length size-length listening-address arguments-count arguments-offset events-count events-offset replies-count replies-offset total T";
     append(text, at, part(all, from, len))
 }
 
@@ -350,11 +383,11 @@ pub fn put_off(text: &mut [u8], at: usize, log: &[u8]) -> usize
         return put_file(text, at, n, size as u64, b" or more.\n");
     }
     let i = first_row(h, n);
-    if i < 15 {
+    if i < 17 {
         return put_row(text, at, i, row(h, n, i));
     }
     let total = h.total as u64;
-    if i == 15 {
+    if i == 17 {
         return put_file(text, at, n, total, b".\n");
     }
     put_events(text, at, form_in(h), h.events_at, events_of(log, h))

@@ -10,7 +10,7 @@ use lib.Seq.{drop-cons}
 use Rattle.telling.specs.Checks.{checkLine}
 use Rattle.text.specs.Written.{Adds}
 use Rattle.text.proofs.Adding.{both, nothing, saying}
-use Rattle.story_checks.specs.Coded.{wantedOf, toldBy}
+use Rattle.story_checks.specs.Coded.{wantedOf, finding, toldBy}
 
 -- What was written is the front of what is to be told; the rest is told from index i on.
 pub record Rowing (codes : List ℕ) (failed : ℕ) (l : List ℕ) (at n : ℕ) (m : List ℕ) (i : ℕ) : Type 0 where
@@ -29,7 +29,7 @@ module _ {codes : List ℕ} {failed : ℕ} {l m : List ℕ} {at n i : ℕ} (w : 
   from-next inside = rw (add-one, ← drop-cons codes i 0 inside)
 
   -- A check that passed.
-  pub passes : i < length codes → eqb next failed ≡ false → {o : List ℕ} {r : ℕ} → Adds (checkLine (wantedOf next) true) m n r o → Rowing codes failed l at r o (i + 1)
+  pub passes : i < length codes → eqb (finding next) failed ≡ false → {o : List ℕ} {r : ℕ} → Adds (checkLine (wantedOf next) true) m n r o → Rowing codes failed l at r o (i + 1)
   unfolding toldBy
   passes inside e p =
       let told : toldBy (drop i codes) failed ≡ checkLine (wantedOf next) true ++ toldBy (drop (i + 1) codes) failed = from-next inside ∙ rw e in
@@ -40,7 +40,7 @@ module _ {codes : List ℕ} {failed : ℕ} {l m : List ℕ} {at n i : ℕ} (w : 
       }
 
   -- The one that failed, which ends the row.
-  pub fails : i < length codes → eqb next failed ≡ true → {o : List ℕ} {r : ℕ} → Adds (checkLine (wantedOf next) false) m n r o → Adds (toldBy codes failed) l at r o
+  pub fails : i < length codes → eqb (finding next) failed ≡ true → {o : List ℕ} {r : ℕ} → Adds (checkLine (wantedOf next) false) m n r o → Adds (toldBy codes failed) l at r o
   unfolding toldBy
   fails inside e p =
       let told : toldBy (drop i codes) failed ≡ checkLine (wantedOf next) false = from-next inside ∙ rw e in

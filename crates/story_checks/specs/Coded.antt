@@ -10,7 +10,7 @@ use Rattle.requests.specs.declared.Call.{Call}
 use Rattle.requests.specs.declared.Call.the-variants as call
 use Rattle.requests.specs.declared.Data.{Data}
 use Rattle.requests.specs.declared.Data.the-variants.{Absent, Present}
-use Rattle.telling.specs.Checks.{wantedBy, length?, checkLine, lenientLine, isPositive}
+use Rattle.telling.specs.Checks.{wantedBy, length?, checkLine, lenientText}
 
 -- A check by the fault that it finds: a deviation's number, 16 for a value above 64 bits; a length from 32 on, twice the least, and one more where that is the most too.
 abbrev pub atLeast : ℕ → ℕ
@@ -48,10 +48,14 @@ failedIn (transport n) = 1
 failedIn (fault f) = coded f
 failedIn (refused n) = 1
 
--- The lines of a row of checks, of which this one failed.
+-- The number of the fault that a check finds: its own. 17, the first of call 15, finds that of a length of 3 or more.
+abbrev pub finding : ℕ → ℕ
+finding k = cond (eqb k 17) (atLeast 3) k
+
+-- The lines of a row of checks, of which this fault was found.
 unfoldable pub toldBy : List ℕ → ℕ → List ℕ
 toldBy [] failed = []
-toldBy (k ∷ ks) failed = cond (eqb k failed) (checkLine (wantedOf k) false) (checkLine (wantedOf k) true ++ toldBy ks failed)
+toldBy (k ∷ ks) failed = cond (eqb (finding k) failed) (checkLine (wantedOf k) false) (checkLine (wantedOf k) true ++ toldBy ks failed)
 
 abbrev pub transferred : Data → ℕ
 transferred Absent = 3
@@ -77,9 +81,9 @@ codesOf (call.RequestDownload c e) a s n = atLeast 2 ∷ 10 ∷ 9 ∷ exactly (n
 codesOf (call.RequestUpload c e) a s n = atLeast 2 ∷ 10 ∷ 9 ∷ exactly (n + 2) ∷ 11 ∷ 16 ∷ []
 codesOf (call.TransferData counter p) a s n = atLeast (transferred p) ∷ atLeast 2 ∷ 7 ∷ []
 codesOf (call.RequestTransferExit p) a s n = []
-codesOf (call.ReadDTCInformationDTC mask) a s n = atLeast 3 ∷ atLeast 3 ∷ []
+codesOf (call.ReadDTCInformationDTC mask) a s n = 17 ∷ atLeast 3 ∷ []
 
 -- What is told of a reply that was heard as a positive. Where `after` is what the checks made of it, this is `checksText` of `telling`.
 abbrev pub checksBy : Bool → Call → ℕ → ℕ → List ℕ → Outcome → Outcome → List ℕ
 checksBy true k a s r heard after = ifPositive heard (λ p. toldBy (codesOf k a s (lengthBytes r)) (failedIn after)) []
-checksBy false k a s r heard after = ifPositive heard (λ p. lenientLine (isPositive after)) []
+checksBy false k a s r heard after = ifPositive heard (λ p. lenientText after) []

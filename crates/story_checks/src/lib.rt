@@ -19,9 +19,9 @@ ghost use lib.ListN.{length, take};
 ghost use Rattle.rules.specs.After.{resetLength};
 ghost use Rattle.rules.specs.Answers as answers;
 ghost use Rattle.exchange.specs.Meaning.{maximumOf, deviationOf, faultOf, outcomeOf};
-ghost use Rattle.telling.specs.Checks.{wantedBy, verdict, checkLine, lenientLine, isPositive};
+ghost use Rattle.telling.specs.Checks.{wantedBy, verdict, checkLine, lenientLine, isPositive, tooWide, overflows, lenientText};
 ghost use Rattle.text.specs.Written.{Adds};
-ghost use Rattle.story_checks.specs.Coded.{oddOf, coded, bounds, wantedOf, failedIn, toldBy, transferred, securityCode, codesOf, checksBy};
+ghost use Rattle.story_checks.specs.Coded.{oddOf, coded, bounds, wantedOf, failedIn, finding, toldBy, transferred, securityCode, codesOf, checksBy};
 
 // A length from 32 on, twice the least, and one more where that is the most too.
 const AT_LEAST: u16 = 32;
@@ -32,6 +32,9 @@ const EXACTLY: u16 = 33;
 const OVERFLOW: u16 = 16;
 
 const NO_CHECK: u16 = 1;
+
+// The first check of call 15: 3 bytes, and whole records of four.
+const WHOLE_RECORDS: u16 = 17;
 
 // A call's checks, in their order.
 struct Row {
@@ -149,7 +152,7 @@ fn row_of(call: Call, address: u8, size: u8, announced: u8) -> Row
         },
         Call::ReadDTCInformationDTC(_) => Row {
             count: 2,
-            codes: [3 * 2 + AT_LEAST, 3 * 2 + AT_LEAST, 0, 0, 0, 0],
+            codes: [WHOLE_RECORDS, 3 * 2 + AT_LEAST, 0, 0, 0, 0],
         },
     }
 }
@@ -200,8 +203,12 @@ fn words_of(number: u16) -> Words
             len: 26,
         },
         16 => Words {
-            bytes: *b"a block length of 64 bits         ",
-            len: 25,
+            bytes: *b"a block length of at most 64 bits ",
+            len: 33,
+        },
+        17 => Words {
+            bytes: *b"a length of 3 plus a multiple of 4",
+            len: 34,
         },
         _ => Words {
             bytes: *b"a length                          ",
@@ -315,6 +322,17 @@ fn is_failed(code: u16, after: Outcome) -> bool
     }
 }
 
+// The fault that a check finds, by its number: both lengths of call 15 find the same.
+fn found_by(code: u16) -> u16
+    ensures { λ r. ⌜ r ≡ finding code ⌝ }
+{
+    if code == WHOLE_RECORDS {
+        3 * 2 + AT_LEAST
+    } else {
+        code
+    }
+}
+
 // The checks of a row, as far as the one that failed.
 fn put_row(text: &mut [u8], at: usize, codes: &[u16], after: Outcome) -> usize
     ensures { λ r. ⌜ Adds (toldBy (now (codes .entry)) (failedIn (outcomeOf [] after))) (now (text .entry)) at r (now (text .exit)) ⌝ }
@@ -323,7 +341,7 @@ fn put_row(text: &mut [u8], at: usize, codes: &[u16], after: Outcome) -> usize
     let mut i = 0;
     while i < codes.len() {
         let code = codes[i];
-        if is_failed(code, after) {
+        if is_failed(found_by(code), after) {
             return put_check(text, n, code, false);
         }
         n = put_check(text, n, code, true);
@@ -332,8 +350,8 @@ fn put_row(text: &mut [u8], at: usize, codes: &[u16], after: Outcome) -> usize
     n
 }
 
-// Lenient makes only those checks without which it could not read the data.
-fn put_lenient(text: &mut [u8], at: usize, passed: bool) -> usize
+// The lengths without which lenient could not read the data.
+fn put_lengths(text: &mut [u8], at: usize, passed: bool) -> usize
     ensures { λ r. ⌜ Adds (lenientLine passed) (now (text .entry)) at r (now (text .exit)) ⌝ }
 {
     let a = append(text, at, b"Check, the lengths that lenient needs");
@@ -356,6 +374,43 @@ fn is_positive(outcome: Outcome) -> bool
     }
 }
 
+fn is_too_wide(wrong: Fault) -> bool
+    ensures { λ r. ⌜ r ≡ tooWide (faultOf wrong) ⌝ }
+{
+    match wrong {
+        Fault::ProtocolDeviation(_) => false,
+        Fault::InvalidResponseLength => false,
+        Fault::BlockLengthOverflow => true,
+    }
+}
+
+fn is_overflow(outcome: Outcome) -> bool
+    ensures { λ r. ⌜ r ≡ overflows (outcomeOf [] outcome) ⌝ }
+{
+    match outcome {
+        Outcome::PositiveResponse(_) => false,
+        Outcome::Suppressed => false,
+        Outcome::NegativeResponse(_) => false,
+        Outcome::Timeout => false,
+        Outcome::Disconnected => false,
+        Outcome::Transport(_) => false,
+        Outcome::Fault(wrong) => is_too_wide(wrong),
+        Outcome::Refused(_) => false,
+        Outcome::PendingLimit => false,
+    }
+}
+
+// Lenient makes only those checks without which it could not read the data.
+fn put_lenient(text: &mut [u8], at: usize, after: Outcome) -> usize
+    ensures { λ r. ⌜ Adds (lenientText (outcomeOf [] after)) (now (text .entry)) at r (now (text .exit)) ⌝ }
+{
+    if is_overflow(after) {
+        let a = put_lengths(text, at, true);
+        return put_check(text, a, OVERFLOW, false);
+    }
+    put_lengths(text, at, is_positive(after))
+}
+
 // The checks of a reply that was heard as a positive, and what became of it.
 pub fn put_checks(
     text: &mut [u8],
@@ -375,7 +430,7 @@ pub fn put_checks(
         return at;
     }
     if !strict {
-        return put_lenient(text, at, is_positive(after));
+        return put_lenient(text, at, after);
     }
     let row = row_of(call, address, size, byte_at(reply, 1) / 16);
     let codes = row.codes;

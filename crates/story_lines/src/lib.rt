@@ -147,7 +147,7 @@ pub fn put_on(
             text,
             a,
             notices,
-            b"). The longer clock starts: deadline ",
+            b"). A new clock starts: deadline ",
             before,
             b" -> ",
             after,
@@ -196,11 +196,11 @@ fn put_judged(text: &mut [u8], at: usize, outcome: Outcome) -> usize
     ensures { λ r. ⌜ Adds (judged (outcomeOf [] outcome)) (now (text .entry)) at r (now (text .exit)) ⌝ }
 {
     match outcome {
-        Outcome::PositiveResponse(_) => append(text, at, b": a positive answer (event "),
+        Outcome::PositiveResponse(_) => append(text, at, b": taken as positive (event "),
         Outcome::NegativeResponse(_) => { append(text, at, b": refused by its code (event ") }
         Outcome::PendingLimit => append(text, at, b": one wait notice too many (event "),
-        Outcome::Disconnected => append(text, at, b": nobody answers any more (event "),
-        Outcome::Transport(_) => append(text, at, b": the line is broken (event "),
+        Outcome::Disconnected => append(text, at, b": disconnected (event "),
+        Outcome::Transport(_) => append(text, at, b": the transport failed (event "),
         Outcome::Fault(wrong) => put_broken(text, at, number_of(wrong)),
         Outcome::Suppressed => put_broken(text, at, 16),
         Outcome::Timeout => put_broken(text, at, 16),
@@ -221,7 +221,7 @@ pub fn put_end(text: &mut [u8], at: usize, event: Event, before: u64, settled: S
             text,
             a,
             events,
-            b"). Call waits until ",
+            b"). Call is to wait until ",
             finish,
             b" ms; deadline ",
             before,
@@ -248,14 +248,14 @@ pub fn put_late(text: &mut [u8], at: usize, state: State) -> usize
             text,
             at,
             deadline,
-            b"deadline: nothing came, as was asked for. The call ends as suppressed.\n",
+            b"deadline: no answer came in time, as was asked for. The call ends as suppressed.\n",
         );
     }
     put_timed(
         text,
         at,
         deadline,
-        b"deadline: nothing came in time. The call ends as timeout.\n",
+        b"deadline: no answer came in time. The call ends as timeout.\n",
     )
 }
 

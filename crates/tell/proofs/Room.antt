@@ -2,12 +2,13 @@
 use Prim.Native.Nat.{ℕ, suc, _+_, _*_, _/_, _≤_, _<_}
 use native.Mathlib.Omega.{arith}
 use mathlib.Core.Bool.{Bool, true, false, cond}
-use mathlib.Core.List.{List, _++_}
+use mathlib.Core.List.{List, [], _++_}
 use mathlib.Core.Path.{_≡_, refl, sym, _∙_, ap}
 use lib.Dec.{leb}
 use lib.ListN.{length, getD, drop, length-append}
 use borrow.Author.Tests.{le-leb, lt-leb}
 use native.Mathlib.Nat.{zero-add}
+use Rattle.rules.specs.Answers.{Outcome, positive, suppressed, negative, timeout, pendingLimit, disconnected, transport, fault, refused}
 use Rattle.rules.specs.Client.{call, asked, entriesIn}
 use Rattle.rules.specs.Events.{eventSize}
 use Rattle.rules.specs.Exchange.{start}
@@ -20,12 +21,22 @@ use Rattle.text.specs.Written.{put}
 use Rattle.log_fields.specs.Words.{offLine}
 use Rattle.log_fields.proofs.Promises.{longest}
 use Rattle.telling.specs.Telling.{Told, toldIn, linesOf, heardIn, byRefusal, callText, soundText, telling, story}
-use Rattle.telling.specs.Words.{declined}
 use Rattle.telling.proofs.Fitting.{joined-long, tell-long, entries-long, begins-long, checks-long, concludes-long, declined-long}
 use Rattle.text.specs.Written.{Adds}
 use Rattle.tell.specs.Told.{Tells}
 use Rattle.tell.specs.declared.Told.the-variants.{Story, NoRoom}
 use Rattle.tell.proofs.Sounding.{is-made, not-made, made-one}
+
+refusal-long : (o : Outcome) → length (byRefusal o []) ≤ 155000
+refusal-long (positive p) = omega arith
+refusal-long suppressed = omega arith
+refusal-long (negative n) = omega arith
+refusal-long timeout = omega arith
+refusal-long pendingLimit = omega arith
+refusal-long disconnected = omega arith
+refusal-long (transport n) = omega arith
+refusal-long (fault f) = omega arith
+refusal-long (refused n) = omega (arith, declined-long n)
 
 module _ (l : List ℕ) where
   abbrev x : Told
@@ -55,7 +66,7 @@ module _ (l : List ℕ) where
   sound-long = go (isRefused (answerOf l .outcome)) refl
     where
       go : (b : Bool) → isRefused (answerOf l .outcome) ≡ b → length (soundText l) ≤ 155000
-      go true e = rw (← not-made (answerOf l .outcome) (callText x (answerOf l)) e) (omega (arith, declined-long))
+      go true e = rw (not-made (answerOf l .outcome) (callText x (answerOf l)) [] e) (refusal-long (answerOf l .outcome))
       go false e = rw (← made-one (answerOf l .outcome) (callText x (answerOf l)) e) (made-long e)
 
   telling-long : length (telling l) ≤ 155000

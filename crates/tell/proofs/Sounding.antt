@@ -43,8 +43,8 @@ use Rattle.telling.specs.Story as Story
 use Rattle.telling.specs.Telling as telling
 use Rattle.telling.specs.Telling.{Told, toldBy, byRefusal, soundText}
 use Rattle.telling.specs.Words as Words
-use Rattle.telling.specs.Checks.{checksText}
-use Rattle.telling.specs.Words.{begins, concludes, declined}
+use Rattle.telling.specs.Checks.{lenientText, checksText}
+use Rattle.telling.specs.Words.{begins, concludes}
 use Rattle.story_checks.specs.Coded.{checksBy}
 use Rattle.story_checks.proofs.Checking.{checks-told}
 use Rattle.tell.specs.Made.{askedBy, callText}
@@ -64,16 +64,28 @@ module _ (strict : Bool) (w : Setting) (c : rules.Call) (lent : Lent) where
       (answered w c lent (requestOf (w .quiet) c) (after strict c heard)) (λ n e. absurd (true≢false e)) (λ p e. (refl, pass-append (arguments c) _ p .1 .1 .1 .0))
 
 -- By whether the call is made.
-pub not-made : (o : answers.Outcome) (x : List ℕ) → isRefused o ≡ true → declined ≡ byRefusal o x
-not-made (answers.positive p) x e = absurd (true≢false (sym e))
-not-made answers.suppressed x e = absurd (true≢false (sym e))
-not-made (answers.negative n) x e = absurd (true≢false (sym e))
-not-made answers.timeout x e = absurd (true≢false (sym e))
-not-made answers.pendingLimit x e = absurd (true≢false (sym e))
-not-made answers.disconnected x e = absurd (true≢false (sym e))
-not-made (answers.transport n) x e = absurd (true≢false (sym e))
-not-made (answers.fault f) x e = absurd (true≢false (sym e))
-not-made (answers.refused n) x e = refl
+pub not-made : (o : answers.Outcome) (x y : List ℕ) → isRefused o ≡ true → byRefusal o x ≡ byRefusal o y
+not-made (answers.positive p) x y e = absurd (true≢false (sym e))
+not-made answers.suppressed x y e = absurd (true≢false (sym e))
+not-made (answers.negative n) x y e = absurd (true≢false (sym e))
+not-made answers.timeout x y e = absurd (true≢false (sym e))
+not-made answers.pendingLimit x y e = absurd (true≢false (sym e))
+not-made answers.disconnected x y e = absurd (true≢false (sym e))
+not-made (answers.transport n) x y e = absurd (true≢false (sym e))
+not-made (answers.fault f) x y e = absurd (true≢false (sym e))
+not-made (answers.refused n) x y e = refl
+
+-- A refusal does not hang on where a reply stands.
+refusal-anywhere : (l : List ℕ) (o : Outcome) → byRefusal (outcomeOf [] o) [] ≡ byRefusal (outcomeOf l o) []
+refusal-anywhere l (outcome.PositiveResponse p) = refl
+refusal-anywhere l outcome.Suppressed = refl
+refusal-anywhere l (outcome.NegativeResponse n) = refl
+refusal-anywhere l outcome.Timeout = refl
+refusal-anywhere l outcome.Disconnected = refl
+refusal-anywhere l (outcome.Transport n) = refl
+refusal-anywhere l (outcome.Fault f) = refl
+refusal-anywhere l (outcome.Refused n) = refl
+refusal-anywhere l outcome.PendingLimit = refl
 
 pub made-one : (o : answers.Outcome) (x : List ℕ) → isRefused o ≡ false → x ≡ byRefusal o x
 made-one (answers.positive p) x e = refl
@@ -89,6 +101,7 @@ made-one (answers.refused n) x e = absurd (true≢false e)
 -- Which check failed does not hang on where the reply stands.
 checks-anywhere : (k : Call) (a s : ℕ) (r l : List ℕ) (strict : Bool) (heard : answers.Outcome) (o : Outcome)
     → checksBy strict k a s r heard (outcomeOf [] o) ≡ checksBy strict k a s r heard (outcomeOf l o)
+unfolding lenientText
 checks-anywhere k a s r l true heard (outcome.PositiveResponse p) = refl
 checks-anywhere k a s r l true heard outcome.Suppressed = refl
 checks-anywhere k a s r l true heard (outcome.NegativeResponse n) = refl
@@ -204,8 +217,10 @@ module _ (l : List ℕ) (h : Header) {ask : Ask} {a s d es rs : List ℕ} {r : A
   refused-is : isRefused (outcomeOf [] (r .answer .outcome)) ≡ isRefused (logs.answerOf l .outcome)
   refused-is = refused-anywhere rs (r .answer .outcome) ∙ ap (λ (x : answers.Answer). isRefused (x .outcome)) means
 
-  pub declines : isRefused (outcomeOf [] (r .answer .outcome)) ≡ true → declined ≡ soundText l
-  declines e = not-made (logs.answerOf l .outcome) _ (sym refused-is ∙ e)
+  pub declines : isRefused (outcomeOf [] (r .answer .outcome)) ≡ true → byRefusal (outcomeOf [] (r .answer .outcome)) [] ≡ soundText l
+  declines e =
+      refusal-anywhere rs (r .answer .outcome) ∙ ap (λ (x : answers.Answer). byRefusal (x .outcome) []) means ∙
+      not-made (logs.answerOf l .outcome) [] _ (sym refused-is ∙ e)
 
   pub sounds : isRefused (outcomeOf [] (r .answer .outcome)) ≡ false → callText ask (sessionOf h) (take (r .sent) buffer) (length a) (length s) es rs (r .answer) ≡ soundText l
   sounds e =

@@ -5,6 +5,7 @@ use exchange::exchange;
 use exchange::start;
 use exchange::types::Answer;
 use exchange::types::Asked;
+use exchange::types::Outcome;
 use exchange::types::State;
 use exchange::types::Timing;
 use logs::header::Header;
@@ -26,11 +27,11 @@ ghost use mathlib.Core.List.{[]};
 ghost use mathlib.Core.Path.{_≡_};
 ghost use Rattle.rules.specs.Exchange as rules;
 ghost use Rattle.rules.specs.Lines.{ascii};
-ghost use Rattle.exchange.specs.Meaning.{answerOf};
+ghost use Rattle.exchange.specs.Meaning.{outcomeOf, answerOf};
 ghost use Rattle.log_call.specs.Asking.{RecordedIn};
 ghost use Rattle.log_call.specs.declared.Recorded.the-variants as recorded;
-ghost use Rattle.telling.specs.Telling.{soundText};
-ghost use Rattle.telling.specs.Words.{mode, quiet, begins, concludes};
+ghost use Rattle.telling.specs.Telling.{byRefusal, soundText};
+ghost use Rattle.telling.specs.Words.{mode, quiet, begins, concludes, declinedBy, declined};
 ghost use Rattle.text.specs.Written.{Adds};
 ghost use Rattle.tell.specs.Made.{askedBy, callText};
 
@@ -91,13 +92,51 @@ fn put_concludes(text: &mut [u8], at: usize, answer: Answer) -> usize
 {
     let events = answer.events as u64;
     let notices = answer.notices as u64;
-    let a = append(text, at, b"The answer stands at ");
+    let a = append(text, at, b"The call ends at ");
     let b = append_decimal(text, a, answer.time);
     let c = append(text, b, b" ms. Events read: ");
     let d = append_decimal(text, c, events);
     let e = append(text, d, b". Wait notices: ");
     let f = append_decimal(text, e, notices);
     append(text, f, b".\n")
+}
+
+// What a refusal is about.
+fn put_about(text: &mut [u8], refusal: u8) -> usize
+    ensures { λ r. ⌜ Adds (declinedBy refusal) (now (text .entry)) 0 r (now (text .exit)) ⌝ }
+{
+    if refusal == 10 {
+        return append(
+            text,
+            0,
+            b"The call is not made: its list of events breaks a limit, refusal ",
+        );
+    }
+    append(
+        text,
+        0,
+        b"The call is not made: what it asks for is not allowed, refusal ",
+    )
+}
+
+// A call that is not made.
+fn put_refusal(text: &mut [u8], refusal: u8) -> usize
+    ensures { λ r. ⌜ Adds (declined refusal) (now (text .entry)) 0 r (now (text .exit)) ⌝ }
+{
+    let number = refusal as u64;
+    let a = put_about(text, refusal);
+    let b = append_decimal(text, a, number);
+    append(text, b, b".\n")
+}
+
+// The line of an answer that is a refusal; nothing for any other.
+fn put_declined(text: &mut [u8], outcome: Outcome) -> usize
+    ensures { λ r. ⌜ Adds (byRefusal (outcomeOf [] outcome) []) (now (text .entry)) 0 r (now (text .exit)) ⌝ }
+{
+    match outcome {
+        Outcome::Refused(refusal) => put_refusal(text, refusal),
+        _ => 0,
+    }
 }
 
 // A call that is made and not refused: its request, its exchange, and what became of it.
@@ -170,11 +209,7 @@ pub(crate) fn put_sound(text: &mut [u8], log: &[u8], h: Header, ask: Ask) -> usi
     let answer = answered.answer;
     let outcome = answer.outcome;
     if is_refused(outcome) {
-        return append(
-            text,
-            0,
-            b"The call is not made: what the log asks breaks a limit, and the last two digits say which.\n",
-        );
+        return put_declined(text, outcome);
     }
     let sent = answered.sent;
     put_made_call(

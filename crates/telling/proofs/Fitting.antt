@@ -11,14 +11,14 @@ use lib.ListN.{length, take, length-append, length-take, length-map}
 use Rattle.rules.specs.After.{serviceChecks}
 use Rattle.rules.specs.Answers.{Fault, deviation, deviation8, badLength, overflow, Outcome, positive, suppressed, negative, timeout, pendingLimit, disconnected, transport, fault, refused, Answer}
 use Rattle.rules.specs.Bytes.{two}
-use Rattle.rules.specs.Calls.{Call, request, session, reset, security, testerPresent, readMemory, writeMemory, readIdentifier, writeIdentifier, faultCount, routine, download, upload, transfer, transferExit, faultList}
+use Rattle.rules.specs.Calls.{Call, request, session, reset, security, testerPresent, readMemory, writeMemory, readIdentifier, writeIdentifier, faultCount, routine, download, upload, transfer, transferExit, faultList, numbered}
 use Rattle.rules.specs.Events.{Form, Entry, entriesFrom, eventOf, foreign, named}
 use Rattle.rules.specs.Exchange.{Asked, State, Settled, Turn, on, ends, turn}
 use Rattle.rules.specs.InOrder.{Check}
 use Rattle.rules.specs.Lines.{ascii, digit, decimalTo, decimal}
 use Rattle.telling.specs.Story.{Line, read, late, over, unread, within, silent, cut, tell}
 use Rattle.telling.specs.Words.{pairs, shown, what, timed, tail, goesOn, pick, breakWords, onText, breaks, numberOf, judged, ending, endText, did, passed, said, joined, mode, quiet, begins, concludes, declined}
-use Rattle.telling.specs.Checks.{wantedWords, wantedBy, length?, wanted, checkLine, told, lenientLine, isPositive, checksText}
+use Rattle.telling.specs.Checks.{wantedWords, wantedBy, length?, wanted, checkLine, told, firstWanted, toldOf, lenientLine, isPositive, overflows, lenientText, checksText}
 use Rattle.telling.proofs.Ways.{tell-none, tell-late, tell-on, tell-ends}
 
 -- A choice is no longer than the longer of the two.
@@ -68,7 +68,7 @@ on-long : (listens : ℕ) (e : Entry) (b n k a : ℕ) → length (onText listens
 unfolding onText
 on-long listens e b n k a =
     let passes = ascii ": passed over (event " ++ goesOn n b (ascii "). The clock runs on: deadline ") a in
-    let waits = ascii ": wait (notice " ++ goesOn k b (ascii "). The longer clock starts: deadline ") a in
+    let waits = ascii ": wait (notice " ++ goesOn k b (ascii "). A new clock starts: deadline ") a in
     let idles = ascii ": nothing was heard (event " ++ goesOn n b (ascii "). The clock runs on: deadline ") a in
     either 160 (foreign listens e) passes (cond (eqb (e .kind) 0) waits idles) (simp length-append (omega (arith, digits 19 n, digits 19 b, digits 19 a)))
     (either 160 (eqb (e .kind) 0) waits idles (simp length-append (omega (arith, digits 19 k, digits 19 b, digits 19 a))) (simp length-append (omega (arith, digits 19 n, digits 19 b, digits 19 a))))
@@ -92,13 +92,13 @@ judged-long (refused n) = breaks-long 16
 end-long : (e : Entry) (b : ℕ) (o : Outcome) (n t : ℕ) → length (endText e b o n t) ≤ 200
 unfolding endText
 end-long e b o n t =
-    let middle = either 49 (ltb (e .time) t) (ascii "). Call waits until ") (ascii "). Call ends at ") (omega arith) (omega arith) in
+    let middle = either 49 (ltb (e .time) t) (ascii "). Call is to wait until ") (ascii "). Call ends at ") (omega arith) (omega arith) in
     simp length-append (omega (arith, judged-long o, digits 19 n, digits 19 t, digits 19 b, middle))
 
 timed-long : (t : ℕ) (bs : List ℕ) → length (timed t bs) ≤ 25 + length bs
 timed-long t bs = simp length-append (omega (arith, digits 19 t))
 
-passed-long : (b : Bool) → length (passed b) ≤ 80
+passed-long : (b : Bool) → length (passed b) ≤ 90
 passed-long true = omega arith
 passed-long false = omega arith
 
@@ -184,6 +184,17 @@ told-long (c ∷ cs) =
     let rest = either (length cs * 60) (c .test) (told cs) [] (told-long cs) (omega arith) in
     simp length-append (omega arith)
 
+first-long : (c : Call) (f : Fault) → length (firstWanted c f) ≤ 36
+first-long c f = either 36 (eqb (numbered c) 15) (wantedBy 17) (wanted f) (wanted-by-long 17) (wanted-long f)
+
+told-of-long : (c : Call) (cs : List (Check Fault)) → length (toldOf c cs) ≤ length cs * 60
+unfolding toldOf
+told-of-long c [] = omega arith
+told-of-long c (x ∷ cs) =
+    let first = simp length-append at (line-long (firstWanted c (x .fault)) (x .test) (first-long c (x .fault))) in
+    let rest = either (length cs * 60) (x .test) (told cs) [] (told-long cs) (omega arith) in
+    simp length-append (omega arith)
+
 few-checks : (c : Call) (r : List ℕ) → length (serviceChecks true c r) ≤ 6
 few-checks (request sid sub x) r = omega arith
 few-checks (session sub) r = omega arith
@@ -206,9 +217,16 @@ lenient-long : (b : Bool) → length (lenientLine b) ≤ 60
 unfolding lenientLine
 lenient-long b = line-long (ascii "the lengths that lenient needs") b (omega arith)
 
+lenient-text-long : (o : Outcome) → length (lenientText o) ≤ 120
+unfolding lenientText
+lenient-text-long o =
+    let wide = line-long (wantedBy 16) false (wanted-by-long 16) in
+    either 120 (overflows o) (lenientLine true ++ checkLine (wantedBy 16) false) (lenientLine (isPositive o))
+    (simp length-append (omega (arith, lenient-long true, simp length-append at wide))) (omega (arith, lenient-long (isPositive o)))
+
 pub checks-long : (strict : Bool) (c : Call) (r : List ℕ) (heard later : Outcome) → length (checksText strict c r heard later) ≤ 360
-checks-long true c r (positive p) later = omega (arith, told-long (serviceChecks true c r), few-checks c r)
-checks-long false c r (positive p) later = omega (arith, lenient-long (isPositive later))
+checks-long true c r (positive p) later = omega (arith, told-of-long c (serviceChecks true c r), few-checks c r)
+checks-long false c r (positive p) later = omega (arith, lenient-text-long later)
 checks-long true c r suppressed later = omega arith
 checks-long false c r suppressed later = omega arith
 checks-long true c r (negative n) later = omega arith
@@ -230,6 +248,8 @@ pub concludes-long : (x : Answer) → length (concludes x) ≤ 120
 unfolding concludes
 concludes-long x = simp length-append (omega (arith, digits 19 (x .time), digits 19 (x .events), digits 19 (x .notices)))
 
-pub declined-long : length declined ≤ 120
+pub declined-long : (n : ℕ) → length (declined n) ≤ 120
 unfolding declined
-declined-long = omega arith
+declined-long n =
+    let about = either 66 (eqb n 10) (ascii "The call is not made: its list of events breaks a limit, refusal ") (ascii "The call is not made: what it asks for is not allowed, refusal ") (omega arith) (omega arith) in
+    simp length-append (omega (arith, digits 19 n, about))

@@ -22,11 +22,11 @@ use Rattle.telling.specs.Promises.{LastLine, readIn, unreadIn, InOrder, 
 use Rattle.telling.specs.Story.{Line, read, late, over, unread, within, silent, cut, tell}
 use Rattle.telling.specs.Telling.{toldIn, exchangeText, heardIn, callText, byRefusal, soundText, telling, story}
 use Rattle.log_fields.specs.Fields.{Field, firstOff}
-use Rattle.log_fields.specs.Promises.{none?}
+use Rattle.log_fields.specs.Promises.{none?, Bytes}
 use Rattle.log_fields.specs.Words.{found, should, offText, textOf, offLine}
 use Rattle.log_fields.proofs.Promises.{promises}
 use Rattle.telling.specs.Checks.{checksText}
-use Rattle.telling.specs.Words.{concludes, declined}
+use Rattle.telling.specs.Words.{concludes, declinedBy, declined}
 use Rattle.telling.proofs.Ways.{tell-none, tell-late, tell-on, tell-ends}
 
 -- The last line.
@@ -36,13 +36,21 @@ Ends bs = (before : List ℕ) × (bs ≡ before ++ (10 ∷ []))
 concludes-ends : (x : Answer) → Ends (concludes x)
 unfolding Ends concludes
 concludes-ends x = (
-  ascii "The answer stands at " ++ decimal (x .time) ++ ascii " ms. Events read: " ++ decimal (x .events) ++ ascii ". Wait notices: " ++ decimal (x .notices) ++ ascii ".",
-  sym (append-assoc (ascii "The answer stands at " ++ decimal (x .time) ++ ascii " ms. Events read: " ++ decimal (x .events) ++ ascii ". Wait notices: " ++ decimal (x .notices)) (ascii ".") (10 ∷ [])),
+  ascii "The call ends at " ++ decimal (x .time) ++ ascii " ms. Events read: " ++ decimal (x .events) ++ ascii ". Wait notices: " ++ decimal (x .notices) ++ ascii ".",
+  sym (append-assoc (ascii "The call ends at " ++ decimal (x .time) ++ ascii " ms. Events read: " ++ decimal (x .events) ++ ascii ". Wait notices: " ++ decimal (x .notices)) (ascii ".") (10 ∷ [])),
 )
 
-declined-ends : Ends declined
-unfolding Ends declined
-declined-ends = (ascii "The call is not made: what the log asks breaks a limit, and the last two digits say which.", refl)
+point-ends : Ends (ascii ".\n")
+unfolding Ends
+point-ends = (ascii ".", refl)
+
+behind : (a b : List ℕ) → Ends b → Ends (a ++ b)
+unfolding Ends
+behind a b h = (a ++ h .0, ap (λ (x : List ℕ). a ++ x) (h .1) ∙ sym (append-assoc a (h .0) (10 ∷ [])))
+
+declined-ends : (n : ℕ) → Ends (declined n)
+unfolding declined
+declined-ends n = behind (declinedBy n ++ decimal n) (ascii ".\n") point-ends
 
 by-refusal : (o : Outcome) (bs : List ℕ) → Ends bs → Ends (byRefusal o bs)
 by-refusal (positive p) bs h = h
@@ -53,15 +61,7 @@ by-refusal pendingLimit bs h = h
 by-refusal disconnected bs h = h
 by-refusal (transport n) bs h = h
 by-refusal (fault f) bs h = h
-by-refusal (refused n) bs h = declined-ends
-
-point-ends : Ends (ascii ".\n")
-unfolding Ends
-point-ends = (ascii ".", refl)
-
-behind : (a b : List ℕ) → Ends b → Ends (a ++ b)
-unfolding Ends
-behind a b h = (a ++ h .0, ap (λ (x : List ℕ). a ++ x) (h .1) ∙ sym (append-assoc a (h .0) (10 ∷ [])))
+by-refusal (refused n) bs h = declined-ends n
 
 -- Of a bad log a field is off, and its line ends as every line does.
 off-ends : (f : Option Field) → none? f ≡ false → Ends (textOf f)
@@ -69,9 +69,9 @@ unfolding offText
 off-ends none e = absurd (true≢false e)
 off-ends (some f) e = behind (ascii "This is no log: " ++ f .name ++ found (f .read) (f .at) (f .found) ++ should (f .least) (f .most)) (ascii ".\n") point-ends
 
-telling-ends : (l : List ℕ) → Ends (telling l)
+telling-ends : (l : List ℕ) → Bytes l → Ends (telling l)
 unfolding telling offLine
-telling-ends l = go (layoutOk l) refl
+telling-ends l bytes = go (layoutOk l) refl
   where
     sound : Ends (soundText l)
     sound = let x = toldIn l in
@@ -81,11 +81,11 @@ telling-ends l = go (layoutOk l) refl
 
     go : (b : Bool) → layoutOk l ≡ b → Ends (cond b (soundText l) (offLine l))
     go true e = sound
-    go false e = off-ends (firstOff l) (sym (promises .decides l) ∙ e)
+    go false e = off-ends (firstOff l) (sym (promises .decides l bytes) ∙ e)
 
 pub last-line : LastLine
 unfolding story Ends
-last-line l = let h = telling-ends l in (h .0, ap (λ (x : List ℕ). x ++ lineOf l) (h .1))
+last-line l bytes = let h = telling-ends l bytes in (h .0, ap (λ (x : List ℕ). x ++ lineOf l) (h .1))
 
 -- Lines of events never read.
 none-read : (es : List Entry) → readIn (map unread es) ≡ []

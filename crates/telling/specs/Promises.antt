@@ -10,12 +10,13 @@ use Rattle.rules.specs.Counts.{Rising}
 use Rattle.rules.specs.Events.{Entry, eventOf}
 use Rattle.rules.specs.Exchange.{Asked, State, Turn, on, ends, start, turn, exchange}
 use Rattle.rules.specs.Logs.{lineOf}
+use Rattle.log_fields.specs.Promises.{Bytes}
 use Rattle.telling.specs.Story.{Line, read, late, over, unread, tell}
 use Rattle.telling.specs.Telling.{telling, story}
 
--- "its last line is `udslog`'s line for every input": what stands before it ends in a newline.
+-- "its last line is `udslog`'s line for every input", which is bytes: what stands before it ends in a newline.
 abbrev pub LastLine : Type 0
-LastLine = (l : List ℕ) → (before : List ℕ) × (story l ≡ (before ++ (10 ∷ [])) ++ lineOf l)
+LastLine = (l : List ℕ) → Bytes l → (before : List ℕ) × (story l ≡ (before ++ (10 ∷ [])) ++ lineOf l)
 
 -- The events that a story tells as read, and as never read.
 abbrev pub readIn : List Line → List Entry

@@ -52,7 +52,7 @@ byRefusal pendingLimit made = made
 byRefusal disconnected made = made
 byRefusal (transport n) made = made
 byRefusal (fault f) made = made
-byRefusal (refused n) made = declined
+byRefusal (refused n) made = declined n
 
 -- A call that is made, and its answer.
 abbrev pub callText : Told → Answer → List ℕ

@@ -39,11 +39,11 @@ tail n middle a between b = decimal n ++ middle ++ decimal a ++ between ++ decim
 abbrev pub goesOn : ℕ → ℕ → List ℕ → ℕ → List ℕ
 goesOn n before middle after = tail n middle before (ascii " -> ") after
 
--- By the number of events and of notices behind it.
+-- By the number of events and of notices behind it. P2* may be the shorter one, so that a notice starts a new clock, and no longer one is promised.
 unfoldable pub onText : ℕ → Entry → ℕ → ℕ → ℕ → ℕ → List ℕ
 onText listens e before events notices after =
     cond (foreign listens e) (ascii ": passed over (event " ++ goesOn events before (ascii "). The clock runs on: deadline ") after)
-    (cond (eqb (e .kind) 0) (ascii ": wait (notice " ++ goesOn notices before (ascii "). The longer clock starts: deadline ") after)
+    (cond (eqb (e .kind) 0) (ascii ": wait (notice " ++ goesOn notices before (ascii "). A new clock starts: deadline ") after)
     (ascii ": nothing was heard (event " ++ goesOn events before (ascii "). The clock runs on: deadline ") after))
 
 -- The words at a number in a table, or other ones.
@@ -71,21 +71,21 @@ numberOf (deviation8 least most) = 8
 numberOf badLength = 0
 numberOf overflow = 16
 
--- What an event is judged to be, where it settles the exchange.
+-- What an event is judged to be, where it settles the exchange. A positive is one so far: the checks behind it may throw it away.
 unfoldable pub judged : Outcome → List ℕ
-judged (positive p) = ascii ": a positive answer (event "
+judged (positive p) = ascii ": taken as positive (event "
 judged suppressed = breaks 16
 judged (negative c) = ascii ": refused by its code (event "
 judged timeout = breaks 16
 judged pendingLimit = ascii ": one wait notice too many (event "
-judged disconnected = ascii ": nobody answers any more (event "
-judged (transport n) = ascii ": the line is broken (event "
+judged disconnected = ascii ": disconnected (event "
+judged (transport n) = ascii ": the transport failed (event "
 judged (fault f) = breaks (numberOf f)
 judged (refused n) = breaks 16
 
--- "a negative or positive with suppression waits until P2 if later"
+-- "a negative or positive with suppression waits until P2 if later"; T may cut that short.
 abbrev pub ending : ℕ → ℕ → List ℕ
-ending t finish = cond (ltb t finish) (ascii "). Call waits until ") (ascii "). Call ends at ")
+ending t finish = cond (ltb t finish) (ascii "). Call is to wait until ") (ascii "). Call ends at ")
 
 unfoldable pub endText : Entry → ℕ → Outcome → ℕ → ℕ → List ℕ
 endText e before o events finish = judged o ++ tail events (ending (e .time) finish) finish (ascii " ms; deadline ") before
@@ -96,8 +96,8 @@ did listens e s (ends x) = endText e (s .deadline) (x .outcome) (length (x .read
 
 -- "suppressed if bit 7 of the sub-function is set and no pending was read, else timeout"
 abbrev pub passed : Bool → List ℕ
-passed true = ascii "deadline: nothing came, as was asked for. The call ends as suppressed.\n"
-passed false = ascii "deadline: nothing came in time. The call ends as timeout.\n"
+passed true = ascii "deadline: no answer came in time, as was asked for. The call ends as suppressed.\n"
+passed false = ascii "deadline: no answer came in time. The call ends as timeout.\n"
 
 unfoldable pub said : ℕ → List ℕ → Line → List ℕ
 said listens replies (read e s x) = timed (e .time) (what listens replies e) ++ did listens e s x
@@ -121,10 +121,10 @@ quiet false = ". The clock starts: deadline "
 unfoldable pub begins : Bool → List ℕ → State → List ℕ
 begins strict sent s = ascii "0 ms  request" ++ shown sent ++ ascii (mode strict) ++ ascii (quiet (s .hush)) ++ decimal (s .deadline) ++ ascii " ms.\n"
 
--- "the answer with the line that `udslog` prints"; that line follows.
+-- When the call ends, whatever came of it: "the answer with the line that `udslog` prints" follows.
 unfoldable pub concludes : Answer → List ℕ
 concludes x =
-    ascii "The answer stands at " ++
+    ascii "The call ends at " ++
     decimal (x .time) ++
     ascii " ms. Events read: " ++
     decimal (x .events) ++
@@ -132,6 +132,11 @@ concludes x =
     decimal (x .notices) ++
     ascii ".\n"
 
--- A call that was not made.
-unfoldable pub declined : List ℕ
-declined = ascii "The call is not made: what the log asks breaks a limit, and the last two digits say which.\n"
+-- A call that was not made, by its refusal, a number of document 01. 10 is the event list's; every other one is about what is asked.
+abbrev pub declinedBy : ℕ → List ℕ
+declinedBy n =
+    cond (eqb n 10) (ascii "The call is not made: its list of events breaks a limit, refusal ")
+    (ascii "The call is not made: what it asks for is not allowed, refusal ")
+
+unfoldable pub declined : ℕ → List ℕ
+declined n = declinedBy n ++ decimal n ++ ascii ".\n"

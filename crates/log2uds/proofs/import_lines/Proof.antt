@@ -1,5 +1,4 @@
 -- `log2uds::import_lines` meets its contract.
-use native.Mathlib.Omega.{arith}
 use borrow.Author.Needs.{needs}
 use Rattle.log2uds.proofs.Runs.{lines-written}
 use Rattle.log2uds.proofs.import_lines.Statement.{statement}
@@ -9,9 +8,7 @@ import-requires : tie.Need-import-requires
 import-requires c κs = search needs
 
 put-outcome-requires : tie.Need-put-outcome-requires
-put-outcome-requires c κs =
-    let done = c .before .before .before in
-    omega (arith, done .import .kept .1 .1 .1 .1 .0, done .before .before .before .before .before .before .before .pre .0)
+put-outcome-requires c κs = search needs
 
 left-out-requires : tie.Need-left-out-requires
 left-out-requires c κs = search needs
@@ -32,10 +29,18 @@ returns c =
     let put = left .before .before .before in
     let done = put .before .before .before .before in
     let s = done .before .before .before .before .before .before .before in
-    lines-written (s .args .ask) (s .args .answer) (s .pre .0) (done .import .ensures) (put .put-outcome .ensures) (left .left-out .ensures)
+    lines-written (s .args .ask) (s .args .answer) (done .import .result .ended) (s .pre .0) (done .import .ensures) (put .put-outcome .ensures)
+    (left .left-out .ensures)
     (reported .put-left-out .ensures)
 
 pub import-lines-spec : {M : Type 1} → statement M
 import-lines-spec =
     tie.close
-    (tie.spec import-requires put-outcome-requires left-out-requires put-left-out-requires same-length same-length-2 returns)
+    (tie.spec
+    import-requires
+    put-outcome-requires
+    left-out-requires
+    put-left-out-requires
+    same-length
+    same-length-2
+    returns)

@@ -19,9 +19,12 @@ same-length-2 c = search needs
 returns : tie.Need-returns
 returns c =
     let put = c .before .before in
-    let done = put .before .before .before .before .before .before .before in
-    let x = done .before .before .before .before .before .before .before .before .args in
-    log-written (x .ask) (x .answer) (x .call .now) (done .import .ensures) (put .put-capture .ensures .0) (put .put-capture .ensures .1)
+    let done = put .before .before .before .before .before .before .before .before in
+    let s = done .before .before .before .before .before .before .before .before in
+    log-written (s .args .ask) (s .args .answer) (s .args .call .now) (done .import .result .ended) (s .pre .0) (done .import .ensures)
+    (put .put-capture .ensures .0)
+    (put .put-capture .ensures .1)
 
 pub import-log-spec : {M : Type 1} → statement M
-import-log-spec = tie.close (tie.spec import-requires put-capture-requires same-length same-length-2 returns)
+import-log-spec =
+    tie.close (tie.spec import-requires put-capture-requires same-length same-length-2 returns)

@@ -1,5 +1,7 @@
 -- `log2uds::read_more` meets its contract.
+use mathlib.Core.Path.{_≡_, _∙_}
 use borrow.Author.Needs.{needs}
+use borrow.Author.Tests.{eqb-true}
 use Rattle.log2uds.proofs.read_more.Statement.{statement}
 use Rattle.log2uds.proofs.read_more.Tie as tie
 
@@ -27,7 +29,12 @@ same-length c = search needs
 returns : tie.Need-returns
 returns c =
     let read = c .before .before in
-    record { text = read .before .before .before .before .before .part .result .now; is = read .read-on .ensures }
+    let at-part = read .before .before .before .before .before in
+    let n = at-part .before .before .before .read-full .result in
+    record {
+      came = record { text = at-part .part .result .now; is = read .read-on .ensures };
+      none = λ e. at-part .part .ensures ∙ (let z : n ≡ 0 = eqb-true n 0 e in rw z);
+    }
 
 pub read-more-spec : {M : Type 1} → statement M
 read-more-spec =

@@ -17,10 +17,10 @@ abbrev fs : Code.Header → ℕ → List Field
 fs h n = headerFields (said h) (usesOf (h .call)) n
 
 abbrev Inv-loop : tie.InvT-loop
-Inv-loop h n i₀ i = (i ≤ 16) × (i + firstOf (drop i (fs h n)) ≡ firstOf (fs h n))
+Inv-loop h n i₀ i = (i ≤ 18) × (i + firstOf (drop i (fs h n)) ≡ firstOf (fs h n))
 
 abbrev μ-loop : tie.MeasureT-loop
-μ-loop h n i₀ i = 16 - i
+μ-loop h n i₀ i = 18 - i
 
 loop-holds : tie.Need-loop-holds Inv-loop μ-loop
 loop-holds c = (omega arith, omega arith)

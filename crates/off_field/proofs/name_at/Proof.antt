@@ -54,7 +54,13 @@ returns-15 : tie.Need-returns-15
 returns-15 c = rw (c .match .keys15)
 
 returns-16 : tie.Need-returns-16
-returns-16 c = sym (List·getD-eq-default names [] (above (c .before .args .i) 15 (c .match .rest)))
+returns-16 c = rw (c .match .keys16)
+
+returns-17 : tie.Need-returns-17
+returns-17 c = rw (c .match .keys17)
+
+returns-18 : tie.Need-returns-18
+returns-18 c = sym (List·getD-eq-default names [] (above (c .before .args .i) 17 (c .match .rest)))
 
 pub name-at-spec : {M : Type 1} → statement M
 name-at-spec =
@@ -75,4 +81,6 @@ name-at-spec =
     returns-13
     returns-14
     returns-15
-    returns-16)
+    returns-16
+    returns-17
+    returns-18)

@@ -6,7 +6,6 @@ use mathlib.Core.Path.{_≡_, sym, _∙_, ap}
 use borrow.Author.Tests.{not-true, not-false}
 use lib.Seq.{length-take-le}
 use Rattle.exchange.specs.Meaning.{outcomeOf}
-use Rattle.telling.specs.Checks.{lenientLine}
 use Rattle.text.specs.Written.{Adds}
 use Rattle.text.proofs.Adding.{nothing, saying}
 use Rattle.story_checks.specs.Coded.{failedIn, toldBy, codesOf, checksBy}
@@ -22,9 +21,6 @@ returns : tie.Need-returns
 returns c = let a = c .before .before .before .before .args in
     saying (none-told (a .strict) (a .call) (a .address) (a .size) (a .reply .now) _ _ (sym (c .before .is-positive .ensures) ∙ not-true _ (c .if1 .taken))) (nothing _ _)
 
-is-positive-requires-2 : tie.Need-is-positive-requires-2
-is-positive-requires-2 c κs = search needs
-
 put-lenient-requires : tie.Need-put-lenient-requires
 put-lenient-requires c κs = search needs
 
@@ -34,13 +30,12 @@ same-length c = search needs
 returns-2 : tie.Need-returns-2
 returns-2 c =
     let at-put-lenient = c .before .before in
-    let at-is-positive2 = at-put-lenient .before in
-    let at-if2 = at-is-positive2 .before .before in
+    let at-if2 = at-put-lenient .before .before in
     let at-if1 = at-if2 .before in
     let at-is-positive = at-if1 .before in
     let a = at-is-positive .before .before .before .args in
     let heard = sym (at-is-positive .is-positive .ensures) ∙ not-false _ (at-if1 .if1 .left) in
-    let said = ap lenientLine (at-is-positive2 .is-positive2 .ensures) ∙ if-so (outcomeOf [] (a .heard)) _ heard in
+    let said = if-so (outcomeOf [] (a .heard)) _ heard in
     rw (not-true (a .strict) (at-if2 .if2 .taken)) (saying said (at-put-lenient .put-lenient .ensures))
 
 byte-at-requires : tie.Need-byte-at-requires
@@ -81,7 +76,6 @@ put-checks-spec =
     (tie.spec
     is-positive-requires
     returns
-    is-positive-requires-2
     put-lenient-requires
     same-length
     returns-2

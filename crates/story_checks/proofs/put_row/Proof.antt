@@ -1,8 +1,9 @@
 -- `story_checks::put_row` meets its contract: the checks before index i are told.
-use Prim.Native.Nat.{_-_}
+use Prim.Native.Nat.{ℕ, _-_}
 use native.Mathlib.Omega.{arith}
 use mathlib.Core.List.{[]}
-use mathlib.Core.Path.{_≡_, refl, sym, _∙_}
+use mathlib.Core.Path.{_≡_, refl, sym, _∙_, ap}
+use lib.Dec.{eqb}
 use lib.ListN.{length}
 use Rattle.exchange.specs.Meaning.{outcomeOf}
 use Rattle.story_checks.specs.Coded.{failedIn}
@@ -17,6 +18,9 @@ Inv-loop text₀ at codes after n₀ i₀ text n i = Rowing codes (failedIn (out
 abbrev μ-loop : tie.MeasureT-loop
 μ-loop text₀ at codes after n₀ i₀ text n i = length codes - i
 
+same-fault : (failed : ℕ) {k j : ℕ} → k ≡ j → eqb k failed ≡ eqb j failed
+same-fault failed e = ap (λ (x : ℕ). eqb x failed) e
+
 loop-holds : tie.Need-loop-holds Inv-loop μ-loop
 loop-holds c = (first _ _ _ _, refl)
 
@@ -25,6 +29,9 @@ mul-code c = search needs
 
 shared-slice-read-code : tie.Need-shared-slice-read-code Inv-loop μ-loop
 shared-slice-read-code c = search needs
+
+found-by-requires : tie.Need-found-by-requires Inv-loop μ-loop
+found-by-requires c κs = search needs
 
 is-failed-requires : tie.Need-is-failed-requires Inv-loop μ-loop
 is-failed-requires c κs = search needs
@@ -39,8 +46,9 @@ returns : tie.Need-returns Inv-loop μ-loop
 returns c =
     let at-if1 = c .before .before .before .before in
     let at-is-failed = at-if1 .before in
-    let at-loop-test = at-is-failed .before .before in
-    fails (at-loop-test .before .loop .inv .0) (at-loop-test .loop-test .taken) (sym (at-is-failed .is-failed .ensures) ∙ at-if1 .if1 .taken) (c .before .before .put-check .ensures)
+    let at-found-by = at-is-failed .before in
+    let at-loop-test = at-found-by .before .before in
+    fails (at-loop-test .before .loop .inv .0) (at-loop-test .loop-test .taken) (sym (at-is-failed .is-failed .ensures ∙ same-fault (failedIn (outcomeOf [] (at-loop-test .before .before .before .before .args .after))) (at-found-by .found-by .ensures)) ∙ at-if1 .if1 .taken) (c .before .before .put-check .ensures)
 
 put-check-requires-2 : tie.Need-put-check-requires-2 Inv-loop μ-loop
 put-check-requires-2 c κs = search needs
@@ -55,8 +63,9 @@ loop-again : tie.Need-loop-again Inv-loop μ-loop
 loop-again c =
     let at-if1 = c .before .before .before .before in
     let at-is-failed = at-if1 .before in
-    let at-loop-test = at-is-failed .before .before in
-    let next = passes (at-loop-test .before .loop .inv .0) (at-loop-test .loop-test .taken) (sym (at-is-failed .is-failed .ensures) ∙ at-if1 .if1 .left) (c .before .before .put-check2 .ensures) in
+    let at-found-by = at-is-failed .before in
+    let at-loop-test = at-found-by .before .before in
+    let next = passes (at-loop-test .before .loop .inv .0) (at-loop-test .loop-test .taken) (sym (at-is-failed .is-failed .ensures ∙ same-fault (failedIn (outcomeOf [] (at-loop-test .before .before .before .before .args .after))) (at-found-by .found-by .ensures)) ∙ at-if1 .if1 .left) (c .before .before .put-check2 .ensures) in
     (next, search needs)
 
 same-length-2 : tie.Need-same-length-2 Inv-loop μ-loop
@@ -74,6 +83,7 @@ put-row-spec =
     loop-holds
     mul-code
     shared-slice-read-code
+    found-by-requires
     is-failed-requires
     put-check-requires
     same-length

@@ -183,12 +183,6 @@ mul-t66 c = search needs
 add-t67 : tie.Need-add-t67
 add-t67 c = search needs
 
-mul-t68 : tie.Need-mul-t68
-mul-t68 c = search needs
-
-add-t69 : tie.Need-add-t69
-add-t69 c = search needs
-
 returns : tie.Need-returns
 unfolding codesOf
 returns c = (rw (c .enum-told .given .1), omega arith)
@@ -315,8 +309,6 @@ row-of-spec =
     enum-told-13
     mul-t66
     add-t67
-    mul-t68
-    add-t69
     returns
     returns-2
     returns-3

@@ -50,8 +50,12 @@ returns-11 c = rw (c .before .before .match .keys11)
 
 returns-12 : tie.Need-returns-12
 unfolding wantedBy
-returns-12 c = let n = c .before .before .match .rest in
-    let m = n .0 .0 .0 .0 .0 in
+returns-12 c = rw (c .before .before .match .keys12)
+
+returns-13 : tie.Need-returns-13
+unfolding wantedBy
+returns-13 c = let n = c .before .before .match .rest in
+    let m = n .0 .0 .0 .0 .0 .0 in
     rw (
       ne-eqb _ 5 (m .0 .0 .0 .0 .0 .1),
       ne-eqb _ 6 (m .0 .0 .0 .0 .1),
@@ -59,11 +63,12 @@ returns-12 c = let n = c .before .before .match .rest in
       ne-eqb _ 9 (m .0 .0 .1),
       ne-eqb _ 10 (m .0 .1),
       ne-eqb _ 11 (m .1),
-      ne-eqb _ 12 (n .0 .0 .0 .0 .1),
-      ne-eqb _ 13 (n .0 .0 .0 .1),
-      ne-eqb _ 14 (n .0 .0 .1),
-      ne-eqb _ 15 (n .0 .1),
-      ne-eqb _ 16 (n .1),
+      ne-eqb _ 12 (n .0 .0 .0 .0 .0 .1),
+      ne-eqb _ 13 (n .0 .0 .0 .0 .1),
+      ne-eqb _ 14 (n .0 .0 .0 .1),
+      ne-eqb _ 15 (n .0 .0 .1),
+      ne-eqb _ 16 (n .0 .1),
+      ne-eqb _ 17 (n .1),
     )
 
 pub words-of-spec : {M : Type 1} → statement M
@@ -81,4 +86,5 @@ words-of-spec =
     returns-9
     returns-10
     returns-11
-    returns-12)
+    returns-12
+    returns-13)

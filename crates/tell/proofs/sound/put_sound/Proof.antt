@@ -3,9 +3,8 @@ use native.Mathlib.Omega.{arith}
 use mathlib.Core.Path.{sym, _∙_, ap}
 use Rattle.rules.specs.Logs.{Header}
 use Rattle.logs.specs.Layout.{said}
-use Rattle.text.proofs.Adding.{appends, saying}
+use Rattle.text.proofs.Adding.{saying}
 use Rattle.tell.proofs.Sounding.{address-narrow, size-narrow, declines, sounds}
-use Rattle.telling.specs.Words.{declined}
 use borrow.Author.Needs.{needs}
 use Rattle.tell.proofs.sound.put_sound.Statement.{statement}
 use Rattle.tell.proofs.sound.put_sound.Tie as tie
@@ -34,20 +33,16 @@ in-session-requires c κs = search needs
 is-refused-requires : tie.Need-is-refused-requires
 is-refused-requires c κs = search needs
 
-slice-aggregate-append : tie.Need-slice-aggregate-append
-slice-aggregate-append c = search needs
-
-append-requires : tie.Need-append-requires
-append-requires c κs = search needs
+put-declined-requires : tie.Need-put-declined-requires
+put-declined-requires c κs = search needs
 
 same-length : tie.Need-same-length
 same-length c = search needs
 
 returns : tie.Need-returns
-unfolding declined
 returns c =
-    let at-append = c .before .before in
-    let at-if1 = at-append .before .before .before in
+    let at-put-declined = c .before .before in
+    let at-if1 = at-put-declined .before .before in
     let at-is-refused = at-if1 .before in
     let at-in-session = at-is-refused .before .before .before in
     let at-replies-of = at-in-session .before .before in
@@ -62,7 +57,7 @@ returns c =
     (at-data-of .data-of .ensures) (at-events-of .events-of .ensures)
     (at-replies-of .replies-of .ensures)
     (at-in-session .in-session .ensures) (sym (at-is-refused .is-refused .ensures) ∙ (at-if1 .if1 .taken)))
-    (appends (at-append .append .ensures))
+    (at-put-declined .put-declined .ensures)
 
 slice-aggregate-part : tie.Need-slice-aggregate-part
 slice-aggregate-part c = search needs
@@ -127,8 +122,7 @@ put-sound-spec =
     slice-aggregate-in-session
     in-session-requires
     is-refused-requires
-    slice-aggregate-append
-    append-requires
+    put-declined-requires
     same-length
     returns
     slice-aggregate-part
