@@ -8,6 +8,7 @@ use lib.Dec.{leb}
 use lib.ListN.{length}
 use borrow.Author.Tests.{le-leb}
 use Rattle.rules.specs.After.{after}
+use Rattle.rules.specs.Answers.{Part, Outcome, positive, suppressed, negative, timeout, pendingLimit, disconnected, transport, fault, refused}
 use Rattle.rules.specs.Calls.{Call, requestOf, sidOf, subOf, withBit7}
 use Rattle.rules.specs.Client.{Result, refuse, answered, call, eventsIn}
 use Rattle.rules.specs.Events.{withinLimits}
@@ -17,7 +18,8 @@ use Rattle.rules.specs.Refusals.{arguments}
 use Rattle.rules.specs.Settings.{Setting, Lent}
 use Rattle.rules.proofs.Judging.{Pass, judge-under, judge-pass}
 use Rattle.rules.proofs.Limits.{limits}
-use Rattle.original.specs.Shown.{called}
+use Rattle.original.specs.Rust.{World, world, Run, err, panics, worldOf}
+use Rattle.original.specs.Shown.{Fail, fail, told, messages, called}
 use Rattle.original.specs.Demand2.{Domain, ofRust, Demand2}
 use Rattle.original.proofs.Calls.{invoked}
 
@@ -64,3 +66,23 @@ module _ (strict : Bool) (w : Setting) (c : Call) (l : Lent) (h : Domain w c l) 
 
 pub demand2 : Demand2
 demand2 = whole
+
+-- The world in which a call of the Rust ends, told by what `rules` answers.
+told-world : {A : Type 0} (answered : Part → World → Run Fail A) (hushed : World → Run Fail A) → ((p : Part) (w : World) → worldOf (answered p w) ≡ w)
+    → ((w : World) → worldOf (hushed w) ≡ w) → (o : Outcome) (r : List ℕ) (w : World) → worldOf (told answered hushed o r w) ≡ w
+told-world answered hushed a h (positive p) r w = a p w
+told-world answered hushed a h suppressed r w = h w
+told-world answered hushed a h (negative n) r w = refl
+told-world answered hushed a h timeout r w = refl
+told-world answered hushed a h pendingLimit r w = refl
+told-world answered hushed a h disconnected r w = refl
+told-world answered hushed a h (transport n) r w = refl
+told-world answered hushed a h (fault f) r w = refl
+told-world {A} answered hushed a h (refused n) r w = go (leb n 3)
+  where
+    go : (b : Bool) → worldOf {A = A} (cond b (panics w) (err (fail (refused n) []) w)) ≡ w
+    go true = refl
+    go false = refl
+
+pub called-world : (c : Call) (x : Result) → worldOf (called c x) ≡ world (x .answer .time) (messages (x .sent) (x .buffer)) (x .timing)
+called-world c x = told-world _ _ (λ p w. refl) (λ w. refl) (x .answer .outcome) (x .answer .reply .bytes) _

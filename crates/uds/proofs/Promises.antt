@@ -1,7 +1,7 @@
 -- What every call of a client promises, by the contract `Asks` that each of them has: demands 1 to 3 of document 01.
 use Prim.Native.Nat.{ℕ}
 use mathlib.Core.Bool.{Bool, true}
-use mathlib.Core.Path.{_≡_, ap, subst}
+use mathlib.Core.Path.{_≡_, sym, _∙_, ap, subst}
 use mathlib.Core.Logic.{_↔_}
 use mathlib.Core.List.{List}
 use Rattle.rules.specs.Answers as rules
@@ -12,8 +12,10 @@ use Rattle.rules.specs.Demand1.{Untouched}
 use Rattle.rules.specs.Demand3 as demand
 use Rattle.rules.specs.Settings.{Setting, Lent}
 use Rattle.original.specs.Demand2.{Domain, ofRust}
+use Rattle.original.specs.Rust.{World, worldOf}
 use Rattle.original.specs.Shown.{called}
-use Rattle.exchange.specs.Meaning.{answerOf, overallOf}
+use Rattle.original.proofs.Demand2.{called-world}
+use Rattle.exchange.specs.Meaning.{answerOf, overallOf, timed}
 use Rattle.exchange.specs.declared.types.RequestTimeout.the-variants.{Never}
 use Rattle.requests.specs.declared.Call.{Call}
 use Rattle.requests.specs.declared.Call.the-variants as call
@@ -21,7 +23,7 @@ use Rattle.calls.specs.Meaning.{settingOf, lentOf, resultOf, Called}
 use Rattle.calls.specs.declared.Ask.{Ask}
 use Rattle.calls.specs.declared.Answered.{Answered}
 use Rattle.calls.proofs.Whole as whole
-use Rattle.uds.specs.Clients.{askOf, Asks}
+use Rattle.uds.specs.Clients.{keptBy, askOf, Asks}
 use Rattle.uds.specs.declared.UDSClient.{UDSClient}
 
 -- What is asked is the client's: `f` says the call with what stands beside it.
@@ -47,6 +49,10 @@ module _ (u : UDSClient) (quiet : Bool) (c : calls.Call) (before events replies 
 
     pub demand-2 : Domain made c lent → ofRust (u .config .strict) made c lent ≡ called c (resultOf replies r after)
     demand-2 = whole.demand-2 asks
+
+    -- Behind it the client is made with the timing that the Rust's client then keeps.
+    pub keeps : Domain made c lent → timed (keptBy u r .session) ≡ worldOf (ofRust (u .config .strict) made c lent) .timing
+    keeps h = sym (ap (λ x. worldOf x .timing) (demand-2 h) ∙ ap (λ (w : World). w .timing) (called-world c (resultOf replies r after)))
 
     pub demand-3 : u .config .strict ≡ true → u .config .«request_timeout» ≡ Never → demand.Named c
         → ¬ demand.Refused (answerOf replies (r .answer) .outcome) → (x : rules.Answer)
