@@ -65,7 +65,7 @@ not-refused disconnected h k = k
 not-refused (transport n) h k = k
 not-refused (fault f) h k = k
 
-answers : (o : Outcome) → (leb (valuesOf o .outcome) 2 ≡ true) ↔ Answers o
+pub answers : (o : Outcome) → (leb (valuesOf o .outcome) 2 ≡ true) ↔ Answers o
 answers (positive p) = (λ h. tt, λ h. refl)
 answers suppressed = (λ h. tt, λ h. refl)
 answers (negative n) = (λ h. tt, λ h. refl)
@@ -120,11 +120,11 @@ module _ {b : Bool} (h : Header) (k : ℕ) (a s : Field) (d : List ℕ) (l : Len
   request-is : after′ ≡ result .buffer
   request-is = served .request ∙ ap (λ (y : Bool). cond y (result .buffer) (l .buffer)) (was-asked b (served .done))
 
-  outcome-is : outcomeIn told′ ≡ valuesOf (result .answer .outcome) .outcome
+  pub outcome-is : outcomeIn told′ ≡ valuesOf (result .answer .outcome) .outcome
   unfolding numbersOf
   outcome-is = ap outcomeIn numbers-are
 
-  answer-is : answerIn told′ ≡ answerNumbers (result .answer)
+  pub answer-is : answerIn told′ ≡ answerNumbers (result .answer)
   unfolding numbersOf
   answer-is = ap answerIn numbers-are
 
