@@ -1,6 +1,7 @@
 # shellcheck shell=bash disable=SC2154,SC2016
-# scripts/original: that crates/original's definitions are of the files whose sums are recorded, and name their lines. `scripts/shell-tests original` runs
-# this. The original is no part of this repository: BINTROCHIS_ORIGINAL names its folder, and where it does not, what needs it is skipped.
+# scripts/original: that crates/original's definitions are of the files whose sums are recorded, and name their lines.
+# `scripts/shell-tests original` runs this. The original is no part of this repository: BINTROCHIS_ORIGINAL names its folder, and where it
+# does not, what needs it is skipped.
 
 # check FOLDER PATTERN: what is found of the pattern in what the script writes of a folder, and its status.
 check() {

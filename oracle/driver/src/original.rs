@@ -628,7 +628,8 @@ fn config(setting: &Setting) -> UDSConfig {
         .strict(setting.strict);
     match setting.overall {
         Some(overall) => builder.request_timeout(millis(overall)),
-        None => builder.without_request_timeout(),
+        // Set and taken away again, as a caller may.
+        None => builder.request_timeout(millis(1)).without_request_timeout(),
     }
     .build()
 }
@@ -686,6 +687,15 @@ async fn probed<'c>(client: &UDSClient<'_, Mock<'c>>, mock: &Mock<'c>) -> (u64, 
     (p2, p2_star)
 }
 
+/// Whether the original's call returns `None`, and never `Some` of no bytes, where nothing is handed out.
+fn says_none(call: &Call) -> bool {
+    match call {
+        Call::Security { sub, .. } => sub % 2 == 0,
+        Call::Routine { .. } | Call::Transfer { .. } | Call::TransferExit { .. } => true,
+        _ => false,
+    }
+}
+
 /// One call of the client; the timing is left open.
 async fn observe_on<'c>(
     client: &UDSClient<'_, Mock<'c>>,
@@ -704,6 +714,10 @@ async fn observe_on<'c>(
     let outcome = match returned {
         Err(message) => panicked(message),
         Ok(Err(error)) => failure(error, case, request.as_deref().unwrap_or_default()),
+        // To document 01 absent and empty are one; the original has an empty one of a seed alone, and else none.
+        Ok(Ok(Returned::Data(data))) if data.is_empty() && says_none(&case.call) => {
+            Outcome::Unknown("Some of no bytes".to_string())
+        }
         Ok(Ok(Returned::Data(data))) => Outcome::Positive(Data::Bytes(data)),
         Ok(Ok(Returned::Number(value))) => {
             number = Some(value as u64);
@@ -732,8 +746,10 @@ async fn observe_on<'c>(
 /// How long a further exchange of the client lasts: it gets no answer, so that it ends in a timeout.
 async fn lasting(client: &UDSClient<'_, Mock<'_>>) -> u64 {
     let begin = Instant::now();
-    match client.tester_present().await {
-        Err(Error::Timeout) => begin.elapsed().as_millis() as u64,
+    let call = client.tester_present();
+    tokio::pin!(call);
+    match Caught(call.as_mut()).await {
+        Ok(Err(Error::Timeout)) => begin.elapsed().as_millis() as u64,
         // No timing: it equals none that a case can have.
         _ => u64::MAX,
     }
