@@ -97,13 +97,13 @@ pub doors-meet : {b : Bool} (h : Header) (k : ℕ) (a s : Field) (d l room buffe
     Replies l (sends w c) room size 0 l′ after size′ → served.Served b (asked h k a s d lent) buffer told 0 after′ told′ → eqb (flag 1 h) 1 ≡ true
     → Asks w c buffer → SoundStore l → Sayable form 0 listens → InTime w (expected w c (decides w c l))
     → (answerIn told′ ≡ answerNumbers (expected w c (decides w c l))) × (leb (outcomeIn told′) 2 ≡ true)
-doors-meet h k a s d l room buffer form listens replies calls strict asks ok says t =
+doors-meet h k a s d l room buffer form listens replies calls strict asks ok sayable t =
     let w = inLimit (limitIn k) (settingOf h) in
     let c = chosen h a s d in
     let x = respond l (sends w c) room .response in
     let lent = lentBy x buffer form listens in
     let room-is = roomy-so x (λ n e. lasting .refused-keeps l (sends w c) room n e .0) (replies .refusal) in
-    let m = promise .meets w c l room buffer form listens asks ok room-is says t in
+    let m = promise .meets w c l room buffer form listens asks ok room-is sayable t in
     let strictly : asked h k a s d lent ≡ call true w c lent = ap (λ (m : Bool). call m w c lent) strict in
     let same : asked h k a s d lent .answer ≡ expected w c (decides w c l) = ap (λ (y : Result). y .answer) strictly ∙ m .2 in
     let o = subst⁻¹ (λ (y : Result). demand.Answers (y .answer .outcome)) strictly (m .3) in (

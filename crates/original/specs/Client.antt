@@ -74,7 +74,7 @@ dataOf r = sliceFrom (r .payload) (r .data-start)
 abbrev pub deviation : Response → ProtocolDeviation → Error
 deviation r d = Deviation d (r .payload)
 
--- types.rs 11-18
+-- types.rs 11-17
 pub data RequestOutcome (A : Type 0) : Type 0 where
   PositiveResponse : A → RequestOutcome A
   Suppressed : RequestOutcome A
