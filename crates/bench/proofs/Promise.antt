@@ -11,17 +11,19 @@ use lib.ListN.{length, getD, take, drop}
 use lib.Seq.{take-append-seam}
 use borrow.Author.Tests.{leb-true, le-leb, ltb-true, eqb-false, not-true}
 use Rattle.rules.specs.After.{after}
-use Rattle.rules.specs.Answers.{Answer}
+use Rattle.rules.specs.Answers.{nowhere, Outcome, positive, suppressed, negative, timeout, pendingLimit, disconnected, transport, fault, refused}
+use Rattle.rules.specs.Answers.{Answer, answer}
 use Rattle.rules.specs.Bytes.{u16At, every, isByte}
 use Rattle.rules.specs.Calls.{Call, request, session, reset, security, testerPresent, readMemory, writeMemory, readIdentifier, writeIdentifier, faultCount, routine, download, upload, transfer, transferExit, faultList, sidOf, requestOf}
 use Rattle.rules.specs.Client.{Result, call, asked, eventsIn, refuse, answered}
 use Rattle.rules.specs.Conversations.{Conversation}
 use Rattle.rules.specs.Demand1.{among}
 use Rattle.rules.specs.Demand3.{Named, Refused, Answers}
-use Rattle.rules.specs.Events.{Form, Event}
+use Rattle.rules.specs.Events.{Form, Event, upTo}
 use Rattle.rules.specs.Exchange.{Settled, counted, under, settle, exchange, start}
 use Rattle.rules.specs.Iso as Iso
 use Rattle.rules.specs.Layouts.{InRange, service}
+use Rattle.rules.specs.Lenient.{Deviates}
 use Rattle.rules.specs.Refusals.{arguments, refusals}
 use Rattle.rules.specs.Settings.{Setting, Lent, Within}
 use Rattle.rules.specs.Writing.{Sayable}
@@ -156,6 +158,17 @@ not-cut : (o : Option ℕ) (s : Settled) → Within o (s .time) → under o s �
 not-cut none s h = refl
 not-cut (some overall) s h = rw (le-leb (s .time) overall h) refl
 
+no-deviation : (o : Outcome) → Answers o → ¬ Deviates o
+no-deviation (positive p) h z = z
+no-deviation suppressed h z = z
+no-deviation (negative n) h z = z
+no-deviation timeout h z = z
+no-deviation pendingLimit h z = z
+no-deviation disconnected h z = z
+no-deviation (transport n) h z = z
+no-deviation (fault f) h z = h
+no-deviation (refused n) h z = z
+
 -- A list that is within the limits is answered by the conversation that it says.
 module _ (w : Setting) (c : Call) (lent : Lent) (n : Named c) (p : Pass (refusals c (sends w c) (lent .buffer) (lent .form) (lent .events) (lent .replies))) where
   abbrev ran : Settled
@@ -185,6 +198,26 @@ module _ (w : Setting) (c : Call) (lent : Lent) (n : Named c) (p : Pass (refusal
       in
       (same, subst⁻¹ (λ (y : Answer). Answers (y .outcome)) same (r .1))
 
+  -- Under any T.
+  uncut : (o : Option ℕ) (s : Settled) → Answers (after true c (counted s) .outcome) → ¬ Deviates (after true c (under o s) .outcome)
+  uncut none s h = no-deviation (after true c (counted s) .outcome) h
+  uncut (some overall) s h = go (leb (s .time) overall)
+    where
+      cut-off : Answer
+      cut-off = answer timeout overall (upTo overall (s .read)) (upTo overall (s .notices)) nowhere
+
+      go : (b : Bool) → ¬ Deviates (after true c (cond b (counted s) cut-off) .outcome)
+      go true = no-deviation (after true c (counted s) .outcome) h
+      go false = λ z. z
+
+  told-cut : (x : Answer) → Conversation w c (eventsIn lent) x → ¬ Deviates (call true w c lent .answer .outcome)
+  unfolding exchange
+  told-cut x k =
+      let s = limits (lent .form) (lent .listens) (lent .events) (lent .replies) (pass-append (arguments c) _ p .1 .1 .1 .0) in
+      let r = complete w c n (eventsIn lent) (s .rising′) (s .of-bytes) x k in
+      subst⁻¹ (λ (y : Result). ¬ Deviates (y .answer .outcome)) run
+      (uncut (w .overall) ran (subst⁻¹ (λ (y : Answer). Answers (y .outcome)) (r .0) (r .1)))
+
 answers : (w : Setting) (c : Call) (l room : List ℕ) → Served c → SoundStore l → Roomy (responds w c l room) → InTime w (expected w c (decides w c l))
     → (lent : Lent) → ¬ Refused (call true w c lent .answer .outcome) → eventsIn lent ≡ atOnce (responds w c l room)
     → (call true w c lent .answer ≡ expected w c (decides w c l)) × Answers (call true w c lent .answer .outcome)
@@ -193,6 +226,15 @@ answers w c l room v ok h t lent n e =
     let x = expected w c (decides w c l) in
     let taken = pass-every (arguments c) (pass-append (arguments c) _ p .0) in
     told w c lent (named c v) p x (subst⁻¹ (λ (es : List Event). Conversation w c es x) e (converses w c l v taken ok room h)) t
+
+undeviating : (w : Setting) (c : Call) (l room : List ℕ) → Served c → SoundStore l → Roomy (responds w c l room)
+    → (lent : Lent) → ¬ Refused (call true w c lent .answer .outcome) → eventsIn lent ≡ atOnce (responds w c l room)
+    → ¬ Deviates (call true w c lent .answer .outcome)
+undeviating w c l room v ok h lent n e =
+    let p = accepted true w c lent n .pass in
+    let x = expected w c (decides w c l) in
+    let taken = pass-every (arguments c) (pass-append (arguments c) _ p .0) in
+    told-cut w c lent (named c v) p x (subst⁻¹ (λ (es : List Event). Conversation w c es x) e (converses w c l v taken ok room h))
 
 meets : (w : Setting) (c : Call) (l room buffer : List ℕ) (form : Form) (listens : ℕ) → Asks w c buffer → SoundStore l → Roomy (responds w c l room)
     → Sayable form 0 listens → InTime w (expected w c (decides w c l)) →
@@ -266,6 +308,7 @@ promise = record {
   converses = λ w c l room v t ok h. converses w c l v t ok room h;
   meets = meets;
   answers = answers;
+  undeviating = undeviating;
   suffices = suffices;
   gives = λ w c l head d v t ok e. gives w c l v t ok head d e;
   positives = λ w c l head d v n t ok e. positives w c l v t ok head d n e;

@@ -17,6 +17,7 @@ use Rattle.rules.specs.Demand3.{Refused, Answers}
 use Rattle.rules.specs.Events.{Form, Event, reply}
 use Rattle.rules.specs.Iso as Iso
 use Rattle.rules.specs.Layouts.{InRange, service}
+use Rattle.rules.specs.Lenient.{Deviates}
 use Rattle.rules.specs.Refusals.{arguments}
 use Rattle.rules.specs.Settings.{Setting, Lent, suppressing, Within}
 use Rattle.rules.specs.Writing.{putEntry, Sayable}
@@ -119,6 +120,10 @@ pub record Promise : Type 0 where
   pub answers : (w : Setting) (c : Call) (l room : List ℕ) → Served c → SoundStore l → Roomy (responds w c l room) → InTime w (expected w c (decides w c l))
       → (lent : Lent) → ¬ Refused (call true w c lent .answer .outcome) → eventsIn lent ≡ atOnce (responds w c l room)
       → (call true w c lent .answer ≡ expected w c (decides w c l)) × Answers (call true w c lent .answer .outcome)
+  -- And "never reports a deviation" under every T: at worst T ends the call before P2 is over.
+  pub undeviating : (w : Setting) (c : Call) (l room : List ℕ) → Served c → SoundStore l → Roomy (responds w c l room)
+      → (lent : Lent) → ¬ Refused (call true w c lent .answer .outcome) → eventsIn lent ≡ atOnce (responds w c l room)
+      → ¬ Deviates (call true w c lent .answer .outcome)
   -- A buffer of 4,095 bytes has room for every reply.
   pub suffices : (l q room : List ℕ) → 4095 ≤ length room → Roomy (respond l q room .response)
   -- What comes back is what the store holds.

@@ -6,6 +6,7 @@ use Rattle.rules.specs.After.{checked}
 use Rattle.rules.specs.Answers as rules
 use Rattle.rules.specs.Answers.{ifPositive}
 use Rattle.exchange.specs.Meaning.{partOf, outcomeOf}
+use Rattle.exchange.specs.Places.{InsideOutcome}
 use Rattle.exchange.specs.declared.types.Answer.{Answer}
 use Rattle.exchange.specs.declared.types.Outcome.{Outcome}
 use Rattle.exchange.specs.declared.types.Outcome.the-variants as outcome
@@ -37,14 +38,26 @@ module _ (replies : List ℕ) where
   stays (outcome.Refused k) n f = refl
   stays outcome.PendingLimit n f = refl
 
+  -- Only a positive names a place.
+  nowhere : (o : Outcome) → NotPositive o → InsideOutcome replies o
+  nowhere (outcome.PositiveResponse p) n = absurd n
+  nowhere outcome.Suppressed n = n
+  nowhere (outcome.NegativeResponse c) n = n
+  nowhere outcome.Timeout n = n
+  nowhere outcome.Disconnected n = n
+  nowhere (outcome.Transport k) n = n
+  nowhere (outcome.Fault e) n = n
+  nowhere (outcome.Refused k) n = n
+  nowhere outcome.PendingLimit n = n
+
   module _ {ask : Ask} {a s : List ℕ} {heard : Answer} where
     pub as-heard : {o : Outcome} → NotPositive o → heard .outcome ≡ o → Rechecked ask a s replies heard (heard .outcome)
-    as-heard n e = record { means = stays (heard .outcome) (subst⁻¹ NotPositive e n) _; inside = λ i. i }
+    as-heard n e = record { means = stays (heard .outcome) (subst⁻¹ NotPositive e n) _; inside = nowhere (heard .outcome) (subst⁻¹ NotPositive e n) }
 
     pub checked-again : {p : Place} {r : Outcome} → heard .outcome ≡ outcome.PositiveResponse p
         → Checked (ask .strict) (ask .call) a s replies (heard .reply) r → Rechecked ask a s replies heard r
     checked-again e k = record {
       means = k .means ∙
           sym (ap (λ (o : Outcome). ifPositive (outcomeOf replies o) (λ p. answered replies (checked (ask .strict) (asked (ask .call) a s) (partOf replies (heard .reply)))) (outcomeOf replies o)) e);
-      inside = λ i. k .inside;
+      inside = k .inside;
     }

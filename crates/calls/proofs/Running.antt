@@ -235,6 +235,6 @@ module _ (g : Given) where
                 whole ∙
                 ap (λ (x : answers.Answer). answered w c l (requestOf (ask .quiet) c) (after strict c x)) is-reached ∙
                 sym (refusing.accepted (refuse w l) (ask .quiet) c (l .buffer) (l .form) (l .events) (l .replies) right (p .refusal) told none-yet kept);
-            outcome = k .outcome .inside (answers-it .outcome);
+            outcome = k .outcome .inside;
             reply = subst⁻¹ (λ x. Inside (l .replies) x) (k .reply) (answers-it .reply);
           }

@@ -19,7 +19,7 @@ pub record Rechecked (ask : Ask) (a s replies : List ℕ) (heard : Answer) (r : 
   pub means : outcomeOf replies r ≡ ifPositive (outcomeOf replies (heard .outcome))
       (λ p. answered replies (checked (ask .strict) (asked (ask .call) a s) (partOf replies (heard .reply))))
       (outcomeOf replies (heard .outcome))
-  pub inside : InsideOutcome replies (heard .outcome) → InsideOutcome replies r
+  pub inside : InsideOutcome replies r
 
 pub record Concluded (session : Timing) (ask : Ask) (long : ℕ) (a s replies : List ℕ) (heard : Answer) (r : Answered) : Type 0 where
   pub outcome : Rechecked ask a s replies heard (r .answer .outcome)

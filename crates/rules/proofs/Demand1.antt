@@ -1,7 +1,8 @@
 -- Demand 1's second sentence, proved: refusals come of the tests before the exchange alone, and each has a number of document 01.
 use Prim.Native.Nat.{ℕ}
-use mathlib.Core.Bool.{Bool, true, false, _||_}
-use mathlib.Core.Path.{_≡_, refl, subst, subst⁻¹}
+use mathlib.Core.Bool.{Bool, true, false, cond, true≢false, _||_}
+use mathlib.Core.Path.{_≡_, refl, sym, _∙_, ap, subst, subst⁻¹}
+use mathlib.Core.Logic.{_↔_, inl, inr}
 use mathlib.Core.List.{List, [], _∷_, _++_}
 use lib.Dec.{eqb}
 use lib.ListN.{getD}
@@ -9,13 +10,14 @@ use mathlib.Core.Option.{Option, none, some}
 use Rattle.rules.specs.After.{serviceChecks, handed, checked, after}
 use Rattle.rules.specs.Answers.{Part, Outcome, positive, suppressed, negative, timeout, pendingLimit, disconnected, transport, fault, refused, ifPositive}
 use Rattle.rules.specs.Calls.{Call, request, session, reset, security, testerPresent, readMemory, writeMemory, readIdentifier, writeIdentifier, faultCount, routine, download, upload, transfer, transferExit, faultList, Field, given, alfid, numbered, requestOf}
-use Rattle.rules.specs.InOrder.{Check}
+use Rattle.rules.specs.InOrder.{Check, judge}
 use Rattle.rules.specs.Client.{Result, asked, eventsIn, refuse, answered, call}
 use Rattle.rules.specs.Conversations.{Every}
-use Rattle.rules.specs.Demand1.{ofMemory, ofLoading, own, numbersFor, among, Numbered, Untouched, Demand1}
+use Rattle.rules.specs.Demand1.{ofMemory, ofLoading, own, numbersFor, among, Numbered, Untouched, FirstToFail, Exactly, Demand1}
 use Rattle.rules.specs.Demand3.{Refused}
 use Rattle.rules.specs.Exchange.{exchange}
 use Rattle.rules.specs.Refusals.{width, methods, lengths, arguments, refusals}
+use Rattle.rules.specs.Settings.{Setting, Lent}
 use Rattle.rules.proofs.Judging.{judge-ind, judge-faults}
 use Rattle.rules.proofs.Unrefused.{exchange-unrefused}
 
@@ -108,3 +110,23 @@ demand1 strict w c l n =
       buffer = refl;
     })
     (λ p e. absurd (not-by-checks strict c (x .reply) (x .outcome) (exchange-unrefused strict (asked w c) (w .overall) (eventsIn l)) (subst⁻¹ Refused e tt)))
+
+-- What a call answers that is not refused is no refusal.
+module _ (w : Setting) (l : Lent) (n : ℕ) (x : Result) (unrefused : ¬ Refused (x .answer .outcome)) where
+  exact : (cs : List (Check ℕ)) → (judge (refuse w l) cs x .answer .outcome ≡ refused n) ↔ FirstToFail cs n
+  exact [] = (λ e. unrefused (subst⁻¹ Refused e tt), λ k. absurd k)
+  exact (c ∷ cs) = go (c .test) refl (exact cs)
+    where
+      go : (b : Bool) → c .test ≡ b → (judge (refuse w l) cs x .answer .outcome ≡ refused n) ↔ FirstToFail cs n
+          → (cond b (judge (refuse w l) cs x) (refuse w l (c .fault)) .answer .outcome ≡ refused n) ↔ FirstToFail (c ∷ cs) n
+      go true e more = (λ k. inr (e, more .0 k), λ k. elim k [ inl z ↦ absurd (true≢false (sym e ∙ z .0)) | inr z ↦ more .1 (z .1) ])
+      go false e more = (λ k. inl (e, cc), λ k. elim k [ inl z ↦ ap refused (z .1) | inr z ↦ absurd (true≢false (sym (z .0) ∙ e)) ])
+
+pub exactly : Exactly
+unfolding call
+exactly strict w c l n =
+    let message = requestOf (w .quiet) c in
+    let x = exchange strict (asked w c) (w .overall) (eventsIn l) in
+    exact w l n (answered w c l message (after strict c x))
+    (not-by-checks strict c (x .reply) (x .outcome) (exchange-unrefused strict (asked w c) (w .overall) (eventsIn l)))
+    (refusals c message (l .buffer) (l .form) (l .events) (l .replies))

@@ -346,4 +346,5 @@ layouts = record {
   negatives = negatives;
   notices = notices;
   blocks = λ w bytes n k b h z. blocks w bytes n k h b;
+  no-more = λ n r h k. omega arith;
 }

@@ -4,13 +4,13 @@ use native.Mathlib.Omega.{arith}
 use mathlib.Core.Bool.{Bool, true, false, cond, _&&_, false≢true}
 use mathlib.Core.Path.{_≡_, refl, sym, _∙_, ap, subst, subst⁻¹}
 use mathlib.Core.Logic.{_≢_, inl, inr}
-use mathlib.Core.List.{List, [], _∷_, _++_}
+use mathlib.Core.List.{List, [], _∷_, _++_, map}
 use mathlib.Core.Option.{Option, none, some}
 use lib.Dec.{leb}
-use lib.ListN.{length}
-use borrow.Author.Tests.{leb-false, ltb-true, lt-ltb, le-leb, lt-leb}
+use lib.ListN.{length, length-map, take}
+use borrow.Author.Tests.{leb-true, leb-false, ltb-true, lt-ltb, le-leb, lt-leb}
 use Rattle.rules.specs.After.{checked}
-use Rattle.rules.specs.Answers.{Part, nowhere, timeout, pendingLimit, answer}
+use Rattle.rules.specs.Answers.{Part, nowhere, timeout, pendingLimit, Answer, answer}
 use Rattle.rules.specs.Calls.{Call, requestOf, suppresses}
 use Rattle.rules.specs.Client.{Result, asked, eventsIn, refuse, call}
 use Rattle.rules.specs.Counts.{isPending, noticesIn, Passing, After, UpToSettling}
@@ -120,6 +120,58 @@ module _ (strict : Bool) (a : Asked) (k : ℕ) (limit : a .limit ≡ some k) whe
       let c = counts strict a es in
       omega (arith, c .notices, fewer (c .read), settling (c .read) (c .rest) _ (c .reads .settling))
 
+  -- The events that an answer counts are among those read.
+  most-counted : (overall : Option ℕ) (es : List Event) → exchange strict a overall es .events ≤ length (counts strict a es .read)
+  most-counted none es = omega (arith, counts strict a es .events)
+  most-counted (some t) es = go (leb (exchange strict a none es .time) t) refl
+    where
+      up-to-most : (ts : List ℕ) → upTo t ts ≤ length ts
+      up-to-most [] = omega arith
+      up-to-most (x ∷ ts) = step (leb x t) (up-to-most ts)
+        where
+          step : (b : Bool) → upTo t ts ≤ length ts → cond b 1 0 + upTo t ts ≤ suc (length ts)
+          step true h = omega arith
+          step false h = omega arith
+
+      go : (b : Bool) → leb (exchange strict a none es .time) t ≡ b → exchange strict a (some t) es .events ≤ length (counts strict a es .read)
+      go true e =
+          let c = counts strict a es in
+          subst⁻¹ (λ (x : Answer). x .events ≤ length (c .read)) (c .within-overall t (leb-true (exchange strict a none es .time) t e))
+          (omega (arith, c .events))
+      go false e =
+          let c = counts strict a es in
+          omega (
+            arith,
+            c .past-overall t (leb-false (exchange strict a none es .time) t e) .0,
+            up-to-most (map timeOf (c .read)),
+            length-map (c .read) timeOf,
+          )
+
+  first-replies : (n : ℕ) (read rest : List Event) → n ≤ length read → length (repliesIn (take n (read ++ rest))) ≤ length (repliesIn read)
+  first-replies zero read rest h = omega arith
+  first-replies (suc n) [] rest h = absurd (omega arith)
+  first-replies (suc n) (reply t p ∷ read) rest h = omega (arith, first-replies n read rest (omega arith))
+  first-replies (suc n) (idle t ∷ read) rest h = first-replies n read rest (omega arith)
+  first-replies (suc n) (ended t ∷ read) rest h = first-replies n read rest (omega arith)
+  first-replies (suc n) (failed t m ∷ read) rest h = first-replies n read rest (omega arith)
+
+  few-counted : (overall : Option ℕ) (es : List Event) → length (repliesIn (take (exchange strict a overall es .events) es)) ≤ k + 1
+  few-counted overall es =
+      let c = counts strict a es in
+      let n = exchange strict a overall es .events in
+      let first = first-replies n (c .read) (c .rest) (most-counted overall es) in
+      let all = settling (c .read) (c .rest) _ (c .reads .settling) in
+      subst⁻¹ (λ (l : List Event). length (repliesIn (take n l)) ≤ k + 1) (c .reads .begins) (omega (arith, first, all))
+
+-- Of a call; a refused one counts none.
+reads-few : (strict : Bool) (w : Setting) (c : Call) (l : Lent) (k : ℕ) → w .limit ≡ some k
+    → length (repliesIn (take (call strict w c l .answer .events) (eventsIn l))) ≤ k + 1
+unfolding call
+reads-few strict w c l k limit =
+    judge-ind (λ (r : Result). length (repliesIn (take (r .answer .events) (eventsIn l))) ≤ k + 1) (refuse w l)
+    (refusals c (requestOf (w .quiet) c) (l .buffer) (l .form) (l .events) (l .replies)) _ (λ n. omega arith)
+    (λ p. few-counted strict (asked w c) k limit (w .overall) (eventsIn l))
+
 -- With no limit.
 module _ (strict : Bool) (a : Asked) (limit : a .limit ≡ none) where
   abbrev Before : State → List Event → Settled → Type 0
@@ -217,6 +269,7 @@ limited-holds = record {
   finishes = finishes;
   replies = λ strict a k limit es read rest time r. settling strict a k limit read rest time (r .settling);
   notices = λ strict a k limit es. noticed strict a k limit es;
+  reads-few = reads-few;
   unlimited = λ strict a overall es limit. unlimited strict a limit overall es;
   unreached = λ strict a overall es k h. unreached strict a k overall es h;
   another = λ strict a overall es k o. another strict a k overall es o;

@@ -6,7 +6,7 @@ use Rattle.rules.specs.Client.{call}
 use Rattle.rules.specs.Events.{withinLimits, entriesFrom}
 use Rattle.rules.specs.Exchange.{look, settle, exchange}
 use Rattle.rules.specs.Pins.{Hold}
-use Rattle.rules.specs.RefusalRows.{inOrder5, inOrder6, inOrder11, inOrder12, bufferRows, fits, eventFields, RefusalRows}
+use Rattle.rules.specs.RefusalRows.{inOrder5, inOrder6, inOrder11, inOrder12, bufferRows, fits, eventFields, OwnGiven, RefusalRows}
 
 inOrder5-hold : Hold inOrder5
 unfolding inOrder5 call withinLimits entriesFrom exchange settle
@@ -32,5 +32,9 @@ eventFields-hold : Hold eventFields
 unfolding eventFields call withinLimits entriesFrom exchange settle look checked
 eventFields-hold = refl
 
+own-given : OwnGiven
+unfolding bufferRows inOrder5 inOrder6 inOrder11 inOrder12
+own-given = refl
+
 pub refusal-rows-hold : RefusalRows
-refusal-rows-hold = (inOrder5-hold, inOrder6-hold, inOrder11-hold, inOrder12-hold, bufferRows-hold, eventFields-hold)
+refusal-rows-hold = (inOrder5-hold, inOrder6-hold, inOrder11-hold, inOrder12-hold, bufferRows-hold, eventFields-hold, own-given)

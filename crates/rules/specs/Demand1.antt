@@ -2,12 +2,15 @@
 use Prim.Native.Nat.{ℕ}
 use mathlib.Core.Bool.{Bool, true, false, _||_}
 use mathlib.Core.Path.{_≡_}
+use mathlib.Core.Logic.{_↔_, _⊎_}
 use mathlib.Core.List.{List, [], _∷_, _++_}
 use lib.Dec.{eqb}
 use lib.ListN.{getD}
 use Rattle.rules.specs.Answers.{nowhere, refused}
-use Rattle.rules.specs.Calls.{Call, numbered}
+use Rattle.rules.specs.Calls.{Call, numbered, requestOf}
 use Rattle.rules.specs.Client.{Result, call}
+use Rattle.rules.specs.InOrder.{Check}
+use Rattle.rules.specs.Refusals.{refusals}
 use Rattle.rules.specs.Settings.{Setting, Lent}
 
 -- The refusals that a call has of its own: 1 is call 3's; 2, 3, 6 and 7 are an address's and a size's, in calls 5, 6, 11, 12; 4 and 5 are the methods', in 11 and 12.
@@ -42,6 +45,17 @@ pub record Untouched (w : Setting) (c : Call) (l : Lent) (n : ℕ) (x : Result) 
   pub sent : x .sent ≡ 0
   pub timing : x .timing ≡ w .timing
   pub buffer : x .buffer ≡ l .buffer
+
+-- "Given exactly when": the test of this number fails, and those before it pass.
+abbrev pub FirstToFail : List (Check ℕ) → ℕ → Type 0
+FirstToFail [] n = ⊥
+FirstToFail (c ∷ cs) n = ((c .test ≡ false) × (c .fault ≡ n)) ⊎ ((c .test ≡ true) × FirstToFail cs n)
+
+abbrev pub Exactly : Type 0
+Exactly =
+    (strict : Bool) (w : Setting) (c : Call) (l : Lent) (n : ℕ)
+    → (call strict w c l .answer .outcome ≡ refused n)
+    ↔ FirstToFail (refusals c (requestOf (w .quiet) c) (l .buffer) (l .form) (l .events) (l .replies)) n
 
 abbrev pub Demand1 : Type 0
 Demand1 = (strict : Bool) (w : Setting) (c : Call) (l : Lent) (n : ℕ) → call strict w c l .answer .outcome ≡ refused n → Untouched w c l n (call strict w c l)

@@ -116,3 +116,5 @@ pub record Layouts : Type 0 where
       let c = transferOf bytes n k in
       let r = requestOf (w .quiet) c in
       Iso.Request (service w c) r × Iso.WithinBlockLength n r × ((k + 1) * carried n < length bytes → length r ≡ n)
+  -- And a request that is longer by a byte is not.
+  pub no-more : (n : ℕ) (r : List ℕ) → length r ≡ n + 1 → ¬ Iso.WithinBlockLength n r

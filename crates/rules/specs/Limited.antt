@@ -6,10 +6,10 @@ use mathlib.Core.Logic.{_≢_}
 use mathlib.Core.List.{List, [], _∷_, map}
 use mathlib.Core.Option.{Option, none, some}
 use lib.Dec.{leb}
-use lib.ListN.{length}
+use lib.ListN.{length, take}
 use Rattle.rules.specs.Answers.{Part, nowhere, deviation, timeout, pendingLimit, disconnected, transport, fault, Answer}
 use Rattle.rules.specs.Calls.{Call, reset, readIdentifier}
-use Rattle.rules.specs.Client.{call}
+use Rattle.rules.specs.Client.{eventsIn, call}
 use Rattle.rules.specs.Counts.{Reads}
 use Rattle.rules.specs.Events.{Event, reply, idle, ended, failed, timeOf}
 use Rattle.rules.specs.Examples.{Said, says, Gives, gives, Example, row, usual}
@@ -70,6 +70,9 @@ pub record Limited : Type 0 where
   pub replies : (strict : Bool) (a : Asked) (k : ℕ) → a .limit ≡ some k → (es read rest : List Event) (time : ℕ) → Reads strict a es time read rest
       → length (repliesIn read) ≤ k + 1
   pub notices : (strict : Bool) (a : Asked) (k : ℕ) → a .limit ≡ some k → (es : List Event) → exchange strict a none es .notices ≤ k + 1
+  -- So of a call: among the events that its answer counts, under T too, there are at most K + 1 replies from the address it listens to.
+  pub reads-few : (strict : Bool) (w : Setting) (c : Call) (l : Lent) (k : ℕ) → w .limit ≡ some k
+      → length (repliesIn (take (call strict w c l .answer .events) (eventsIn l))) ≤ k + 1
   -- With none the exchange is what it was.
   pub unlimited : (strict : Bool) (a : Asked) (overall : Option ℕ) (es : List Event) → a .limit ≡ none
       → exchange strict a overall es ≡ exchangeBefore strict a overall es

@@ -1,13 +1,16 @@
 -- Rows for refusals: each neighbouring pair in its order, for each call that has it; what is accepted just beside; the buffer's length;
 -- each limit of an event list.
 use Prim.Native.Nat.{ℕ}
-use mathlib.Core.Bool.{Bool, true, false}
+use mathlib.Core.Bool.{Bool, true, false, cond, _&&_}
 use mathlib.Core.Path.{_≡_}
 use mathlib.Core.List.{List, [], _∷_, _++_, map}
 use mathlib.Core.Option.{none, some}
-use lib.ListN.{length, replicate}
-use Rattle.rules.specs.Answers.{Outcome, part, positive, suppressed, timeout, transport, refused}
-use Rattle.rules.specs.Calls.{Call, request, session, reset, security, testerPresent, readMemory, writeMemory, readIdentifier, writeIdentifier, faultCount, routine, download, upload, transfer, transferExit, faultList, Field, given, alfid}
+use lib.Dec.{eqb}
+use lib.ListN.{length, getD, replicate}
+use Rattle.rules.specs.Answers.{Outcome, part, positive, suppressed, negative, timeout, pendingLimit, disconnected, transport, fault, refused}
+use Rattle.rules.specs.Calls.{Call, request, session, reset, security, testerPresent, readMemory, writeMemory, readIdentifier, writeIdentifier}
+use Rattle.rules.specs.Calls.{faultCount, routine, download, upload, transfer, transferExit, faultList, Field, given, alfid, numbered}
+use Rattle.rules.specs.Demand1.{own, among}
 use Rattle.rules.specs.Events.{plain}
 use Rattle.rules.specs.Client.{call}
 use Rattle.rules.specs.Examples.{Said, says, idles, raw, joined, eventBytes, entry, usual, gives, Example, whole, row}
@@ -144,7 +147,15 @@ bufferRows =
     within 1 (transferExit none) [] timeout ∷ []
 
 abbrev pub fits : BufferRow → Outcome
-fits r = call true usual (r .call) (record { buffer = replicate (r .room) 0xee; form = plain; events = eventBytes 0 (r .said); replies = joined (r .said); listens = 0 }) .answer .outcome
+fits r = call true usual (r .call)
+    (record {
+      buffer = replicate (r .room) 0xee;
+      form = plain;
+      events = eventBytes 0 (r .said);
+      replies = joined
+          (r .said);
+      listens = 0;
+    }) .answer .outcome
 
 -- A timing that lets a time above 65,535 be in time.
 abbrev pub slow : Setting
@@ -177,6 +188,38 @@ eventFields =
     broken (says 10 (256 ∷ [])) ∷
     row true usual (readMemory field (given (0x01 ∷ []))) (says 10 (0x63 ∷ 255 ∷ []) ∷ []) (gives (positive (part 1 (255 ∷ []))) 10 1 0 0) ∷ []
 
+-- The numbers that rows give to calls of this number.
+abbrev pub numberIn : Outcome → List ℕ
+numberIn (refused n) = n ∷ []
+numberIn (positive p) = []
+numberIn suppressed = []
+numberIn (negative c) = []
+numberIn timeout = []
+numberIn pendingLimit = []
+numberIn disconnected = []
+numberIn (transport n) = []
+numberIn (fault f) = []
+
+abbrev pub shownBy : ℕ → List BufferRow → List ℕ
+shownBy k [] = []
+shownBy k (r ∷ rs) = cond (eqb (numbered (r .call)) k) (numberIn (r .outcome)) [] ++ shownBy k rs
+
+abbrev pub shownIn : ℕ → List Example → List ℕ
+shownIn k [] = []
+shownIn k (e ∷ es) = cond (eqb (numbered (e .call)) k) (numberIn (e .gives .outcome)) [] ++ shownIn k es
+
+abbrev pub allAmong : List ℕ → List ℕ → Bool
+allAmong [] ns = true
+allAmong (n ∷ ms) ns = among ns n && allAmong ms ns
+
+-- Each refusal that a call is said to have of its own is given by a row.
+abbrev pub ownGiven : ℕ → Bool
+ownGiven k = allAmong (getD own k []) (shownBy k bufferRows ++ shownIn k (inOrder5 ++ inOrder6 ++ inOrder11 ++ inOrder12))
+
+abbrev pub OwnGiven : Type 0
+OwnGiven = map ownGiven (0 ∷ 1 ∷ 2 ∷ 3 ∷ 4 ∷ 5 ∷ 6 ∷ 7 ∷ 8 ∷ 9 ∷ 10 ∷ 11 ∷ 12 ∷ 13 ∷ 14 ∷ 15 ∷ []) ≡ replicate 16 true
+
 abbrev pub RefusalRows : Type 0
 RefusalRows =
-    Hold inOrder5 × Hold inOrder6 × Hold inOrder11 × Hold inOrder12 × (map fits bufferRows ≡ map (λ r. r .outcome) bufferRows) × Hold eventFields
+    Hold inOrder5 × Hold inOrder6 × Hold inOrder11 × Hold inOrder12 × (map fits bufferRows ≡ map (λ r. r .outcome) bufferRows) × Hold eventFields ×
+    OwnGiven

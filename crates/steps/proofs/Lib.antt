@@ -3,3 +3,4 @@ pub mod Phases
 pub mod Standing
 pub mod Promises
 pub mod Unique
+pub mod Apart

@@ -90,7 +90,7 @@ module _ (b : Begun) (a s replies : List ℕ) where
   module _ (t n m : ℕ) where
     suppressed : Quietly (record { outcome = outcome.Suppressed; time = t; events = n; notices = m; reply = noPlace })
     suppressed = record {
-      outcome = record { means = refl; inside = λ i. i };
+      outcome = record { means = refl; inside = tt };
       time = refl;
       events = refl;
       notices = refl;
@@ -102,7 +102,7 @@ module _ (b : Begun) (a s replies : List ℕ) where
 
     timed-out : Quietly (record { outcome = outcome.Timeout; time = t; events = n; notices = m; reply = noPlace })
     timed-out = record {
-      outcome = record { means = refl; inside = λ i. i };
+      outcome = record { means = refl; inside = tt };
       time = refl;
       events = refl;
       notices = refl;

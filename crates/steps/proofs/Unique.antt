@@ -6,30 +6,19 @@ use mathlib.Core.Path.{_≡_, refl, sym, _∙_, ap, subst, subst⁻¹}
 use mathlib.Core.List.{List}
 use mathlib.Core.Option.{Option, none, some}
 use lib.Dec.{leb, ltb}
-use Rattle.rules.specs.After.{numberOf, timingOf}
 use Rattle.rules.specs.Answers as rules
 use Rattle.rules.specs.Calls.{Call}
 use Rattle.rules.specs.Events.{Entry, sound}
 use Rattle.rules.specs.Exchange as exchange
-use Rattle.exchange.specs.Meaning.{outcomeOf, timed}
-use Rattle.exchange.specs.Places.{InsideOutcome, TurnsTo, Turns}
-use Rattle.exchange.specs.States.{wholeOf, cutOf, underOf}
-use Rattle.exchange.specs.declared.types.Answer.{Answer}
-use Rattle.exchange.specs.declared.types.Outcome.{Outcome}
-use Rattle.exchange.specs.declared.types.Settled as settled
+use Rattle.exchange.specs.Places.{TurnsTo, Turns}
 use Rattle.exchange.specs.declared.types.State.{State}
-use Rattle.exchange.specs.declared.types.Step.{Step}
-use Rattle.exchange.specs.declared.types.Step.the-variants.{Pending, Settles}
 use Rattle.exchange.specs.declared.types.Timing.{Timing}
 use Rattle.exchange.specs.declared.types.Turn.{Turn}
 use Rattle.exchange.specs.declared.types.Turn.the-variants.{On, Ends}
-use Rattle.exchange.proofs.Unique.{looked-unique, turns-unique}
-use Rattle.requests.specs.Meaning.{bare}
-use Rattle.checks.specs.Answered.{fitting}
-use Rattle.checks.proofs.Unique.{timing-unique}
-use Rattle.calls.specs.Concluded.{Concluded}
+use Rattle.exchange.proofs.Unique.{turns-unique}
 use Rattle.calls.specs.declared.Ask.{Ask}
 use Rattle.calls.specs.declared.Answered.{Answered}
+use Rattle.calls.proofs.Concluding.{concluded-unique}
 use Rattle.calls.proofs.Whole.{unique}
 use Rattle.steps.specs.declared.Engine.{Engine}
 use Rattle.steps.specs.declared.Phase.{Phase}
@@ -44,54 +33,13 @@ begin-unique {session} {ask} k k′ =
     let same = unique {strict = ask .strict} (k .called) (k′ .called) in
     (k .engine ∙ ap (begunBy session ask) (same .0) ∙ sym (k′ .engine), same .1)
 
-abbrev outcomeIn : Outcome → Step → Outcome
-outcomeIn o (Settles p) = p
-outcomeIn o Pending = o
-
 module _ (replies : List ℕ) where
-  outcome-unique : {o p : Outcome} → InsideOutcome replies o → InsideOutcome replies p → outcomeOf replies o ≡ outcomeOf replies p → o ≡ p
-  outcome-unique {o} {p} i j e =
-      ap (outcomeIn o) (looked-unique replies {s = Settles o} {t = Settles p} (record { means = ap exchange.settles e; inside = i }) (record { means = refl; inside = j }))
-
-  concluded-unique : {session : Timing} {ask : Ask} {n : ℕ} {a s : List ℕ} {heard : Answer} {x y : Answered} → InsideOutcome replies (heard .outcome)
-      → Concluded session ask n a s replies heard x → Concluded session ask n a s replies heard y → x ≡ y
-  concluded-unique {session} {ask} {x = x} {y = y} inside k h =
-      let outcome = outcome-unique (k .outcome .inside inside) (h .outcome .inside inside) (k .outcome .means ∙ sym (h .outcome .means)) in
-      let time = k .time ∙ sym (h .time) in
-      let events = k .events ∙ sym (h .events) in
-      let notices = k .notices ∙ sym (h .notices) in
-      let reply = k .reply ∙ sym (h .reply) in
-      let number = k .number ∙ ap (λ (o : Outcome). fitting (numberOf (bare (ask .call)) (outcomeOf replies o))) outcome ∙ sym (h .number) in
-      let sent = k .sent ∙ sym (h .sent) in
-      let timing =
-      timing-unique (x .timing) (y .timing)
-      (k .timing ∙ ap (λ (o : Outcome). timingOf (ask .server) (bare (ask .call)) (outcomeOf replies o) (timed session)) outcome ∙ sym (h .timing))
-      in
-      λ i. record {
-        answer = record { outcome = outcome i; time = time i; events = events i; notices = notices i; reply = reply i };
-        number = number i;
-        sent = sent i;
-        timing = timing i;
-      }
-
-  under-inside : (overall : Option ℕ) (x : settled.Settled) → InsideOutcome replies (x .outcome) → InsideOutcome replies (underOf overall x .outcome)
-  under-inside none x h = h
-  under-inside (some t) x h = go (leb (x .time) t)
-    where
-      go : (k : Bool) → InsideOutcome replies (cond k (wholeOf x) (cutOf t x) .outcome)
-      go true = h
-      go false = tt
-
-  ends-inside : (overall : Option ℕ) (begins : ℕ) (before : State) (x : settled.Settled) (z : exchange.Turn) → TurnsTo overall replies begins before (Ends x) z → InsideOutcome replies (x .outcome)
-  ends-inside overall begins before x (exchange.on y) t = absurd t
-  ends-inside overall begins before x (exchange.ends y) t = t .inside
-
   module _ (e : Engine) (a s : List ℕ) (x : Entry) where
     behind-unique : (overall : Option ℕ) (begins : ℕ) (before : State) (turn : Turn) (z : exchange.Turn) (r r′ : Stepped) → TurnsTo overall replies begins before turn z
         → Behind e (x .time) a s replies turn r → Behind e (x .time) a s replies turn r′ → r ≡ r′
     behind-unique overall begins before (On next) z r r′ t k k′ = k ∙ sym k′
     behind-unique overall begins before (Ends y) z r r′ t k k′ =
-        let same = concluded-unique (under-inside (overallIn e) y (ends-inside overall begins before y z t)) (k .1) (k′ .1) in
+        let same = concluded-unique replies (k .1) (k′ .1) in
         k .2 ∙ ap (λ (q : Answered). taken (x .time) (phase.Settled q) e) same ∙ sym (k′ .2)
 
     turned-unique : {now : State} {r r′ : Stepped} → Turned e now a s x replies r → Turned e now a s x replies r′ → r ≡ r′

@@ -24,7 +24,7 @@ use Rattle.stepwise.specs.Handed.{Handed, lent, now, inputOf, hands, run
 use Rattle.stepwise.proofs.Driven.{driven, run-append}
 
 -- Where each event is sound, only their number is left of 10.
-abbrev few : ℕ → Event → Bool
+abbrev pub few : ℕ → Event → Bool
 few read e = ltb read 512
 
 merged : (listens : ℕ) {replies : List ℕ} {es : List Entry} {ts : List ℕ} {hs : List Handed} → Handing replies es ts hs → Merged (map (eventOf listens replies) es) ts (map (inputOf listens) hs)
@@ -33,13 +33,13 @@ merged listens (takes m) = Rattle.stepwise.specs.Driven.takes (merged li
 merged listens (ticks m) = Rattle.stepwise.specs.Driven.ticks (merged listens m)
 
 module _ (strict : Bool) (a : Asked) (overall : Option ℕ) (listens : ℕ) where
-  event-step : (z : Engine) (replies : List ℕ) (e : Entry) → sound replies e ≡ true
+  pub event-step : (z : Engine) (replies : List ℕ) (e : Entry) → sound replies e ≡ true
       → hands strict a overall listens z (lent replies e) ≡ step few strict a overall z (event (eventOf listens replies e))
   unfolding step
   event-step (decided x) replies e h = refl
   event-step (waiting last s) replies e h = rw h refl
 
-  tick-step : (z : Engine) (t : ℕ) → hands strict a overall listens z (now t) ≡ step few strict a overall z (tick t)
+  pub tick-step : (z : Engine) (t : ℕ) → hands strict a overall listens z (now t) ≡ step few strict a overall z (tick t)
   unfolding step
   tick-step (decided x) t = refl
   tick-step (waiting last s) t = refl
@@ -60,7 +60,7 @@ module _ (strict : Bool) (a : Asked) (overall : Option ℕ) (listens : ℕ) wher
   runOf-append z (k ∷ hs) h = runOf-append (hands strict a overall listens z k .engine) hs h
 
   -- With one tick more.
-  last-run : (z : Engine) (hs : List Handed) (t : ℕ) → runOf strict a overall listens z hs ≡ run few strict a overall z (map (inputOf listens) hs)
+  pub last-run : (z : Engine) (hs : List Handed) (t : ℕ) → runOf strict a overall listens z hs ≡ run few strict a overall z (map (inputOf listens) hs)
       → runOf strict a overall listens z (hs ++ (now t ∷ [])) ≡ run few strict a overall z (map (inputOf listens) hs ++ (tick t ∷ []))
   unfolding run
   last-run z hs t e =

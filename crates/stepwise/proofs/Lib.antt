@@ -4,3 +4,4 @@ pub mod Driven
 pub mod Any
 pub mod Handed
 pub mod Runs
+pub mod Apart

@@ -1,4 +1,5 @@
-// A worked path from a download to its transfers: the block length that call 11 returned, the blocks cut, each sent by call 13 with its counter and answered.
+// A worked path from a session to a download and its transfers: the timing that the session gave, the block length that call 11 returned, the blocks cut,
+// each sent by call 13 with its counter and answered.
 use blocks::Cut;
 use calls::Answered;
 use calls::Ask;
@@ -93,10 +94,24 @@ fn identify() {
     say(b"\n");
 }
 
+// An extended session, whose answer has a P2 of 25 ms; then silence, which ends at that time.
+fn open(client: UDSClient) -> UDSClient {
+    let mut request = [0u8; 64];
+    let events = [0, 0, 0, 5, 0, 0, 0, 0, 0, 6];
+    let replies = [0x50, 0x03, 0x00, 0x19, 0x01, 0xf4];
+    let opened = client.diagnostic_session_control(3, &mut request, &events, &replies);
+    say(b"session: ");
+    show(opened, &replies);
+    let behind = client.after(opened);
+    say(b"silence: ");
+    show(behind.tester_present(&mut request, b"", b""), b"");
+    behind
+}
+
 fn main() {
     identify();
     let data = b"Bintrochis";
-    let client = UDSClient::new();
+    let client = open(UDSClient::new());
     let mut request = [0u8; 64];
     let events = [0, 0, 0, 10, 0, 0, 0, 0, 0, 3];
     // the controller takes requests of six bytes: SID, counter and four bytes of data

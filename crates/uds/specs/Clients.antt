@@ -16,6 +16,10 @@ use Rattle.uds.specs.declared.UDSClient.{UDSClient}
 abbrev pub sessionOf : UDSConfig → Timing
 sessionOf c = record { p2 = c .«p2_timeout»; star = c .«p2_star_timeout» }
 
+-- The client behind a call that was answered so.
+abbrev pub keptBy : UDSClient → Answered → UDSClient
+keptBy u r = record { config = u .config; session = r .timing }
+
 abbrev pub askOf : UDSClient → Bool → Call → Ask
 askOf u quiet k = record {
   call = k;

@@ -1,5 +1,5 @@
-// Unified Diagnostic Services (UDS) client, implements ISO 14229. Every call takes, behind its arguments, the lent request buffer, the events (ten bytes each) and
-// the reply bytes. Above each is its row of document 01's table: request -> strict positive -> data handed out; s is the sub-function with bit 7 cleared.
+// Unified Diagnostic Services (UDS) client, implements ISO 14229. Every call takes, behind its arguments, the lent request buffer, the events (ten bytes
+// each, or twelve with addresses) and the reply bytes. Above each is its row of document 01's table: request -> strict positive -> data handed out; s is the sub-function with bit 7 cleared.
 use calls::Answered;
 use calls::Ask;
 use calls::run;
@@ -17,7 +17,7 @@ ghost use Rattle.rules.specs.Calls as rules;
 ghost use Rattle.rules.specs.Calls.{session, reset, security, testerPresent, readMemory, writeMemory, readIdentifier, writeIdentifier, faultCount, faultList, routine, download, upload, transfer, transferExit, alfid};
 ghost use Rattle.exchange.specs.Meaning.{subOf};
 ghost use Rattle.requests.specs.Meaning.{dataOf, callFrom, callOf};
-ghost use Rattle.uds.specs.Clients.{sessionOf, askOf, Asks};
+ghost use Rattle.uds.specs.Clients.{sessionOf, keptBy, askOf, Asks};
 ghost use Rattle.uds.specs.Defaults.{defaults};
 
 pub mod config;
@@ -54,6 +54,15 @@ impl UDSClient {
     {
         let client = self;
         SuppressedUDSClient { client }
+    }
+
+    // The client behind a call: it keeps the session's timing, as the Rust's client does, whose views share it.
+    pub fn after(self, answered: Answered) -> UDSClient
+        ensures { λ r. ⌜ r ≡ keptBy self answered ⌝ }
+    {
+        let config = self.config;
+        let session = answered.timing;
+        UDSClient { config, session }
     }
 
     // How this client asks; `quiet` says that the suppressed view does.

@@ -7,6 +7,7 @@ use crate::limited;
 use crate::model::{Call, Case, Memory, Observed, ERROR, IDLE, REPLY};
 use crate::original::Original;
 use crate::sample;
+use crate::sequences;
 use crate::steps::{self, Stepper};
 use std::collections::BTreeMap;
 
@@ -257,7 +258,12 @@ pub fn faults(side: Side, stepper: Stepper, seed: u64) -> Result<usize, String> 
         let with = runs.noticed(stepper, Some(fault));
         say(fault.name, with.0 > 0, with);
     }
-    let all = FAULTS.len() + LIMIT_FAULTS.len() + ADDRESS_FAULTS.len() + steps::FAULTS.len() + 4;
+    let [stays, carried] = sequences::noticed(side, seed);
+    println!("2000 sequences of calls on one client.");
+    let of = |count: usize| (count, "sequences".to_string());
+    say("no fault in sequences", carried == 0, of(carried));
+    say("a client that keeps its first timing", stays > 0, of(stays));
+    let all = FAULTS.len() + LIMIT_FAULTS.len() + ADDRESS_FAULTS.len() + steps::FAULTS.len() + 6;
     println!("{} passed, {failed} failed", all - failed);
     Ok(failed)
 }

@@ -591,6 +591,50 @@ fn sequences(rng: &mut Rng, visit: &mut Visit) {
     }
 }
 
+/// So many sequences of two to five calls of one client, whose setting is the first case's; each further case has the timing that
+/// the client then has, and events by that. Every third call is a session, mostly with times that later calls feel.
+pub fn on_one_client(rng: &mut Rng, count: usize, visit: &mut dyn FnMut(&[Case])) {
+    let calls = sample_calls();
+    let pairs = [0u16, 1, 6, 25, 50, 500, 3000, 65535];
+    for _ in 0..count {
+        let mut setting = some_case(rng, &calls).setting;
+        if rng.once_in(8) {
+            setting = Setting::default();
+        }
+        let many = rng.between(2, 5);
+        let mut cases: Vec<Case> = Vec::new();
+        while cases.len() < many {
+            let session = rng.once_in(3);
+            let call = match rng.below(2) {
+                _ if session => some_call_numbered(rng, 1),
+                0 => some_call(rng),
+                _ => calls[rng.below(calls.len())].clone(),
+            };
+            setting.quiet = rng.once_in(3);
+            let mut case = Case::new(call, setting);
+            let (deadline, now) = add_waiting(rng, &mut case, 3);
+            let mut reply = good_reply(&case.call, rng);
+            if session && !rng.once_in(8) {
+                let [p2, p2_star] = [rng.pick(&pairs), rng.pick(&pairs)].map(u16::to_be_bytes);
+                reply.truncate(2);
+                reply.extend([p2, p2_star].concat());
+            }
+            if rng.once_in(4) {
+                damage(rng, &mut reply);
+            }
+            reply.truncate(4095);
+            add_closing(rng, &mut case, deadline, now, &reply);
+            if matches!(direct::refusal(&case, 4095), Some(8..=10)) {
+                continue;
+            }
+            let (p2, p2_star) = direct::run(&case).timing;
+            (setting.p2, setting.p2_star) = (p2 as u32, p2_star as u32);
+            cases.push(case);
+        }
+        visit(&cases);
+    }
+}
+
 /// For limits of notices, so many cases: a controller that says wait all day, by few notices or by some more than 250, at
 /// times one that only lenient takes for a notice, with idles between them; then a closing. T is at and around an event.
 pub fn waiting(rng: &mut Rng, cases: usize, visit: &mut Visit) {

@@ -14,11 +14,14 @@ mod lines;
 mod list;
 mod log;
 mod model;
+#[cfg(feature = "mutants")]
+mod mutants;
 mod original;
 #[cfg(feature = "proved")]
 mod proved;
 mod rng;
 mod sample;
+mod sequences;
 mod steps;
 mod time;
 
@@ -31,8 +34,10 @@ oracle limited SIDE [SEED]         SIDE under limits of notices, which the origi
 oracle limits SIDE LOGS EXPECTED   the line of each log under the limit that its expected line begins with
 oracle foreign SIDE [SEED]         SIDE on events with source addresses, which the original does not have
 oracle logs SIDE LOGS EXPECTED     SIDE's line of each log, of either version
+oracle sequences SIDE [SEED]       several calls on one client of the original against SIDE
 oracle steps SIDE [SEED]           SIDE one event at a time with ticks between, which the original does not do
 oracle runs SIDE RUNS              SIDE on the runs of a file, step by step
+oracle mutants SIDE IDS N M        mutants of the original against SIDE; in the build of oracle/mutants alone
 oracle list PREFIX [SEED]          writes the fixed list, PREFIX.bin and PREFIX.expected
 oracle written SIDE LOGS EXPECTED  SIDE's line of each log, from the log's bytes
 oracle filter                      a file of logs as standard input to their lines, by the direct program
@@ -89,6 +94,11 @@ fn run(words: &[&str]) -> Result<usize, String> {
             steps::steps(stepper(name)?, side(name)?, seed(more.first())?)
         }
         ["runs", name, runs] => steps::runs(stepper(name)?, runs),
+        ["sequences", name, more @ ..] => sequences::sequences(side(name)?, seed(more.first())?),
+        #[cfg(feature = "mutants")]
+        ["mutants", name, ids, of_each, count] => {
+            mutants::mutants(side(name)?, ids, of_each, count)
+        }
         ["list", prefix, more @ ..] => list::list(prefix, seed(more.first())?),
         ["written", name, logs, expected] => lined::written(name, logs, expected),
         ["filter"] => lined::filter(),

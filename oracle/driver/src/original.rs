@@ -2,7 +2,9 @@
 //! client did is read off its result, off the mock and off further exchanges of the same client. A limit of notices and
 //! addresses, which it does not have, change nothing.
 
-use crate::model::{Call, Case, Data, Event, Memory, Observed, Outcome, END, ERROR, IDLE, REPLY};
+use crate::model::{
+    Call, Case, Data, Event, Memory, Observed, Outcome, Setting, END, ERROR, IDLE, REPLY,
+};
 use automotive::protocols::uds::{
     DTCReportNumberByStatusMask, Error as UdsError, ProtocolDeviation, RequestOutcome,
     SessionParameterRecord, UDSClient, UDSConfig,
@@ -71,9 +73,18 @@ impl Original {
         self.observe(case, false)
     }
 
+    /// Cases one after the other on one client; the timing after each of them, or after the last one alone.
+    pub fn run_all(&mut self, cases: &[Case], each: bool) -> Vec<Observed> {
+        self.on_clock(observe_all(cases, each))
+    }
+
     fn observe(&mut self, case: &Case, probe: bool) -> Observed {
+        self.on_clock(observe(case, probe))
+    }
+
+    fn on_clock<A>(&mut self, observing: impl Future<Output = A>) -> A {
         let (observed, now) = self.runtime.block_on(async {
-            let observed = observe(case, probe).await;
+            let observed = observing.await;
             (observed, Instant::now())
         });
         if now - self.begin >= CLOCK_END {
@@ -108,10 +119,14 @@ impl<'c> Mock<'c> {
         }
     }
 
-    /// Gives the mock the events of a further exchange.
+    /// Gives the mock the events of an exchange, and counts anew.
     fn play(&self, events: &'c [Event], replies: &'c [u8]) {
         self.events.set(events);
         self.replies.set(replies);
+        self.sent.take();
+        self.read.set(0);
+        self.notices.set(0);
+        self.settling.set(false);
     }
 }
 
@@ -433,7 +448,128 @@ fn deviation(deviation: ProtocolDeviation, reply: Vec<u8>) -> Outcome {
     }
 }
 
-fn failure(error: Error) -> Outcome {
+/// The number that bytes are, high byte first.
+fn number_of(bytes: &[u8]) -> u128 {
+    let add = |number: u128, &byte: &u8| number.wrapping_mul(256).wrapping_add(byte.into());
+    bytes.iter().fold(0, add)
+}
+
+/// What a deviation names besides its number, expected and found, as the request and the reply have it: the port does not hand these
+/// out, so that the original's own bytes say what is right.
+fn names_rightly(deviation: &ProtocolDeviation, request: &[u8], reply: &[u8]) -> bool {
+    use ProtocolDeviation::*;
+    let bytes = |from: &[u8], at: usize, many: usize| from.get(at..at + many).map(<[u8]>::to_vec);
+    let pair = |from: &[u8], at: usize| bytes(from, at, 2).map(|pair| number_of(&pair) as u16);
+    let byte = |from: &[u8], at: usize| from.get(at).copied();
+    let format = byte(request, 1).unwrap_or(0);
+    let (address, size) = (format as usize % 16, format as usize / 16);
+    match deviation {
+        InvalidServiceId { expected, actual } => {
+            Some(expected.as_raw()) == byte(request, 0).map(|sid| sid | 0x40)
+                && Some(actual.as_raw()) == byte(reply, 0)
+        }
+        InvalidRequestServiceId { expected, actual } => {
+            Some(expected.as_raw()) == byte(request, 0) && Some(actual.as_raw()) == byte(reply, 1)
+        }
+        InvalidSubFunction { expected, actual } => {
+            Some(*expected) == byte(request, 1).map(|sub| sub & 0x7f)
+                && Some(*actual) == byte(reply, 1)
+        }
+        InvalidDataIdentifier { expected, actual } => {
+            Some(expected.as_raw()) == pair(request, 1) && Some(actual.as_raw()) == pair(reply, 1)
+        }
+        InvalidRoutineIdentifier { expected, actual } => {
+            Some(expected.as_raw()) == pair(request, 2) && Some(actual.as_raw()) == pair(reply, 2)
+        }
+        InvalidBlockSequenceCounter { expected, actual }
+        | InvalidAddressAndLengthFormatIdentifier { expected, actual } => {
+            Some(*expected) == byte(request, 1) && Some(*actual) == byte(reply, 1)
+        }
+        InvalidLengthFormat(many) => Some(*many) == byte(reply, 1).map(|n| n as usize / 16),
+        InvalidLengthFormatIdentifier(found) => Some(*found) == byte(reply, 1),
+        InvalidMaxNumberOfBlockLength(value) => *value == number_of(&reply[2..]),
+        InvalidMemoryAddress { expected, actual } => {
+            Some(expected) == bytes(request, 2, address).as_ref()
+                && Some(actual) == bytes(reply, 2, address).as_ref()
+        }
+        InvalidMemorySize { expected, actual } => {
+            Some(expected) == bytes(request, 2 + address, size).as_ref()
+                && Some(actual) == bytes(reply, 2 + address, size).as_ref()
+        }
+        InvalidMemoryRecordLength { expected, actual } => {
+            Some(*expected) == bytes(request, 2 + address, size).map(|size| number_of(&size))
+                && *actual == reply.len() - 1
+        }
+        InvalidResponseLength { .. } | UnexpectedPositiveResponse => true,
+    }
+}
+
+/// The value and the width that refusals 6 and 7 name: the first that is off.
+fn off_width(case: &Case) -> Option<(u64, usize)> {
+    let Some(&Memory::Alfid {
+        address,
+        size,
+        address_width,
+        size_width,
+    }) = case.call.memory()
+    else {
+        return None;
+    };
+    let fits = |&(value, width): &(u64, usize)| {
+        (1..=8).contains(&width) && (width == 8 || value >> (8 * width) == 0)
+    };
+    let pairs = [(address, address_width), (size, size_width)];
+    pairs.into_iter().find(|pair| !fits(pair))
+}
+
+/// Compression and encryption method.
+fn methods(case: &Case) -> Option<(u8, u8)> {
+    match case.call {
+        Call::Download {
+            compression,
+            encryption,
+            ..
+        }
+        | Call::Upload {
+            compression,
+            encryption,
+            ..
+        } => Some((compression, encryption)),
+        _ => None,
+    }
+}
+
+/// An error's outcome. What it names besides must be what was asked, sent and received.
+fn failure(error: Error, case: &Case, request: &[u8]) -> Outcome {
+    let rightly = match &error {
+        Error::UDSError(error) => match error {
+            UdsError::ProtocolDeviation {
+                deviation,
+                response,
+            } => names_rightly(deviation, request, response),
+            UdsError::BlockLengthOverflow { value, response } => {
+                let many = response[1] as usize / 16;
+                *value == number_of(&response[2..2 + many])
+            }
+            UdsError::InvalidCompressionMethod(method) => {
+                Some(*method) == methods(case).map(|(compression, _)| compression)
+            }
+            UdsError::InvalidEncryptionMethod(method) => {
+                Some(*method) == methods(case).map(|(_, encryption)| encryption)
+            }
+            UdsError::InvalidMemoryValueWidth(width) => {
+                Some(*width) == off_width(case).map(|(_, width)| width)
+            }
+            UdsError::MemoryValueOverflow { value, width } => {
+                Some((*value, *width)) == off_width(case)
+            }
+            _ => true,
+        },
+        _ => true,
+    };
+    if !rightly {
+        return Outcome::Unknown(error.to_string());
+    }
     match error {
         Error::Timeout => Outcome::Timeout,
         Error::Disconnected => Outcome::Disconnected,
@@ -482,31 +618,106 @@ const NOTICE_AT_0: [Event; 1] = [Event {
     source: 0,
 }];
 
-async fn observe(case: &Case, probe: bool) -> Observed {
-    let setting = &case.setting;
-    let mock = Mock::new(&case.events, &case.replies);
+/// The setting's configuration, by the original's builder.
+fn config(setting: &Setting) -> UDSConfig {
     let millis = |time: u32| Duration::from_millis(time.into());
-    let client = UDSClient::with_config(
-        &mock,
-        UDSConfig {
-            p2_timeout: millis(setting.p2),
-            p2_star_timeout: millis(setting.p2_star),
-            request_timeout: setting.overall.map(millis),
-            use_server_timing: setting.server_timing,
-            strict: setting.strict,
-        },
-    );
+    let builder = UDSConfig::builder()
+        .p2_timeout(millis(setting.p2))
+        .p2_star_timeout(millis(setting.p2_star))
+        .use_server_timing(setting.server_timing)
+        .strict(setting.strict);
+    match setting.overall {
+        Some(overall) => builder.request_timeout(millis(overall)),
+        // Set and taken away again, as a caller may.
+        None => builder.request_timeout(millis(1)).without_request_timeout(),
+    }
+    .build()
+}
 
+/// The setting's client; one with the defaults of both sides is made without a configuration.
+fn client<'m, 'c>(mock: &'m Mock<'c>, setting: &Setting) -> UDSClient<'m, Mock<'c>> {
+    let default = Setting {
+        quiet: setting.quiet,
+        limit: setting.limit,
+        listens: setting.listens,
+        ..Setting::default()
+    };
+    if *setting == default {
+        UDSClient::new(mock)
+    } else {
+        UDSClient::with_config(mock, config(setting))
+    }
+}
+
+/// The cases one after the other on one client, which is made by the first one's setting: each further case gives its call, its
+/// events and whether the suppressed client asks. The timing is observed after each call, or after the last one alone; where it is
+/// not, it is reported as 0.
+async fn observe_all(cases: &[Case], each: bool) -> Vec<Observed> {
+    let mock = Mock::new(&[], &[]);
+    let client = client(&mock, &cases[0].setting);
+    let mut all = Vec::new();
+    for (at, case) in cases.iter().enumerate() {
+        let mut observed = observe_on(&client, &mock, case).await;
+        if each || at + 1 == cases.len() {
+            observed.timing = probed(&client, &mock).await;
+        }
+        all.push(observed);
+    }
+    all
+}
+
+async fn observe(case: &Case, probe: bool) -> Observed {
+    let mock = Mock::new(&[], &[]);
+    let client = client(&mock, &case.setting);
+    let mut observed = observe_on(&client, &mock, case).await;
+    observed.timing = if probe {
+        probed(&client, &mock).await
+    } else {
+        (case.setting.p2.into(), case.setting.p2_star.into())
+    };
+    observed
+}
+
+/// P2 and P2* of the client: silence lasts P2; one notice at 0 and then silence lasts P2*.
+async fn probed<'c>(client: &UDSClient<'_, Mock<'c>>, mock: &Mock<'c>) -> (u64, u64) {
+    mock.play(&[], &[]);
+    let p2 = lasting(client).await;
+    mock.play(&NOTICE_AT_0, &NOTICE);
+    let p2_star = lasting(client).await;
+    (p2, p2_star)
+}
+
+/// Whether the original's call returns `None`, and never `Some` of no bytes, where nothing is handed out.
+fn says_none(call: &Call) -> bool {
+    match call {
+        Call::Security { sub, .. } => sub % 2 == 0,
+        Call::Routine { .. } | Call::Transfer { .. } | Call::TransferExit { .. } => true,
+        _ => false,
+    }
+}
+
+/// One call of the client; the timing is left open.
+async fn observe_on<'c>(
+    client: &UDSClient<'_, Mock<'c>>,
+    mock: &Mock<'c>,
+    case: &'c Case,
+) -> Observed {
+    mock.play(&case.events, &case.replies);
     let begin = Instant::now();
-    let call = ask(&client, case);
+    let call = ask(client, case);
     tokio::pin!(call);
     let returned = Caught(call.as_mut()).await;
     let time = begin.elapsed().as_millis() as u64;
 
+    let request = mock.sent.borrow_mut().take();
     let mut number = None;
     let outcome = match returned {
         Err(message) => panicked(message),
-        Ok(Err(error)) => failure(error),
+        Ok(Err(error)) => failure(error, case, request.as_deref().unwrap_or_default()),
+        // To document 01 absent and empty are one; the original has an empty one of a seed alone, and else none.
+        Ok(Ok(Returned::Data(data))) if data.is_empty() && says_none(&case.call) => {
+            Outcome::Unknown("Some of no bytes".to_string())
+        }
         Ok(Ok(Returned::Data(data))) => Outcome::Positive(Data::Bytes(data)),
         Ok(Ok(Returned::Number(value))) => {
             number = Some(value as u64);
@@ -520,26 +731,14 @@ async fn observe(case: &Case, probe: bool) -> Observed {
         }
         Ok(Ok(Returned::Nothing)) => Outcome::Positive(Data::Bytes(Vec::new())),
     };
-    let request = mock.sent.borrow_mut().take();
-    let (events, notices) = (mock.read.get(), mock.notices.get());
-
-    let mut timing = (setting.p2.into(), setting.p2_star.into());
-    if probe {
-        // Silence lasts P2; one notice at 0 and then silence lasts P2*.
-        mock.settling.set(false);
-        mock.play(&[], &[]);
-        timing.0 = lasting(&client).await;
-        mock.play(&NOTICE_AT_0, &NOTICE);
-        timing.1 = lasting(&client).await;
-    }
     Observed {
         request,
         outcome,
         time,
-        events,
-        notices,
+        events: mock.read.get(),
+        notices: mock.notices.get(),
         number,
-        timing,
+        timing: (0, 0),
         place: None,
     }
 }
@@ -547,8 +746,10 @@ async fn observe(case: &Case, probe: bool) -> Observed {
 /// How long a further exchange of the client lasts: it gets no answer, so that it ends in a timeout.
 async fn lasting(client: &UDSClient<'_, Mock<'_>>) -> u64 {
     let begin = Instant::now();
-    match client.tester_present().await {
-        Err(Error::Timeout) => begin.elapsed().as_millis() as u64,
+    let call = client.tester_present();
+    tokio::pin!(call);
+    match Caught(call.as_mut()).await {
+        Ok(Err(Error::Timeout)) => begin.elapsed().as_millis() as u64,
         // No timing: it equals none that a case can have.
         _ => u64::MAX,
     }
