@@ -1,4 +1,5 @@
 // From a request line of `udsbench` to the line that it gets.
+#![tactic(auto)]
 ghost use Rattle.std.specs.Prelude.{◌≡◌, true, ◌*◌, ◌/◌, ◌%◌, ◌≤◌, ◌<◌, length, take, replicate};
 ghost use Rattle.rules.specs.Bytes.{every};
 ghost use Rattle.rules.specs.Lines.{digit, hex};
@@ -98,7 +99,7 @@ fn space_at(line: &[u8]) -> usize
 }
 
 // The length of the reply buffer that a number says; or it is none.
-#[derive(Drop)]
+#[derive(Clone, Copy)]
 enum Room {
     Of(usize),
     Unreadable,

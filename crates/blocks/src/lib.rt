@@ -1,10 +1,11 @@
 // Document 01, "Cutting a download", with request Two: the blocks of lent data, and their counters. What a block is, is `block` of `rules`.
+#![tactic(auto)]
 ghost use Rattle.std.specs.Prelude.{◌≡◌};
 ghost use Rattle.rules.specs.Blocks.{block};
 ghost use Rattle.blocks.specs.Cuts.{cut};
 
 // The counter that block k is sent with, or the refusal.
-#[derive(Drop)]
+#[derive(Clone, Copy)]
 pub enum Cut {
     Counter(u8),
     Refused(u8),

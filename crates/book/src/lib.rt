@@ -1,4 +1,5 @@
 // Request Thirteen, "A book of logs with a summary": a book in lent bytes, and its summary in lent counters. What they are, is said in `bookkeeping`.
+#![tactic(auto)]
 ghost use Rattle.std.specs.Prelude.{◌≡◌, length, take};
 ghost use Rattle.bookkeeping.specs.Book.{is_book, of_call};
 ghost use Rattle.bookkeeping.specs.Layout.{logs_in};
@@ -13,7 +14,7 @@ use writer::{insert, put_header};
 pub mod summary;
 mod writer;
 
-#[derive(Drop)]
+#[derive(Clone, Copy)]
 pub enum Found {
     // where the log stands in the book
     Log(Place),
@@ -21,14 +22,14 @@ pub enum Found {
 }
 
 // Under which call and number the log is found, and the counter of the summary that counts it.
-#[derive(Drop)]
+#[derive(Clone, Copy)]
 pub struct Entry {
     pub call: u8,
     pub number: usize,
     pub place: usize,
 }
 
-#[derive(Drop)]
+#[derive(Clone, Copy)]
 pub enum Added {
     // how many bytes at the buffer's front are the book now
     Book(usize, Entry),

@@ -22,7 +22,7 @@ fn clear(summary: &mut [u16])
     }
 }
 
-#[derive(Drop)]
+#[derive(Clone, Copy)]
 pub enum Summed {
     // the counters are the summary now
     Summary,

@@ -1,4 +1,5 @@
 // The counter of a log in the summary of a book: a log is run alone, and its answer says which counter is raised.
+#![tactic(auto)]
 ghost use Rattle.std.specs.Prelude.{◌≡◌, cond, ◌<◌};
 ghost use Rattle.rules.specs.Logs.{layout_ok};
 ghost use Rattle.bookkeeping.specs.Summary.{raised, raised_at, slot};
@@ -10,7 +11,7 @@ use log_line::{LogAnswer, answer_of};
 use wire::byte_at;
 
 // The counter of a log in the summary; or it is no log.
-#[derive(Drop)]
+#[derive(Clone, Copy)]
 pub enum Counted {
     At(usize),
     BadLog,

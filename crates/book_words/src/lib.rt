@@ -1,10 +1,11 @@
 // The words that `udsbook` is started with, and the command that they are.
+#![tactic(auto)]
 ghost use Rattle.std.specs.Prelude.{◌≡◌};
 ghost use Rattle.book_words.specs.Words.{number_in, find_of, command_of};
 
 use check::same;
 
-#[derive(Drop)]
+#[derive(Clone, Copy)]
 pub enum Command {
     New,
     Add,
@@ -15,7 +16,7 @@ pub enum Command {
     Usage,
 }
 
-#[derive(Drop)]
+#[derive(Clone, Copy)]
 enum Number {
     Is(u64),
     // no decimal number up to 2^64 - 1

@@ -1,4 +1,5 @@
 // A whole call, by value: the core that all named functions share.
+#![tactic(auto)]
 ghost use Rattle.std.specs.Prelude.{cond, [], ◌≡◌};
 ghost use Rattle.exchange.specs.Meaning.{outcome_of};
 ghost use Rattle.rules.specs.Calls.{alfid};
@@ -14,7 +15,7 @@ use requests::Call;
 use requests::rows::{Takes, row_of};
 
 // What is asked, by value: the call, and how it is made.
-#[derive(Drop)]
+#[derive(Clone, Copy)]
 pub struct Ask {
     pub call: Call,
     pub quiet: bool,
@@ -26,7 +27,7 @@ pub struct Ask {
 }
 
 // The answer, the number that calls 11 and 12 return, how many bytes were sent, and the session's timing afterwards.
-#[derive(Drop)]
+#[derive(Clone, Copy)]
 pub struct Answered {
     pub answer: Answer,
     pub number: u64,

@@ -1,4 +1,5 @@
 // `candump` reads a line of `candump -L` a byte at a time: no line is too long, and none is kept.
+#![tactic(auto)]
 ghost use Rattle.std.specs.Prelude.{◌||◌, ◌&&◌, cond, ◌≡◌, ◌+◌, ◌-◌, ◌*◌, ◌%◌, ◌≤◌, ◌<◌, eqb};
 ghost use Rattle.candump.specs.declared.Found.TheVariants.{Other, Unreadable};
 ghost use Rattle.candump.specs.declared.Phase.TheVariants.{Bad};
@@ -8,7 +9,7 @@ ghost use Rattle.candump.specs.Words.{names, identifier_in};
 ghost use Rattle.candump.specs.Reading.{begun, more, microseconds, can_id, classic_found, after, stored, next, ended, hopeless};
 
 // What a line is. Of a frame: its time in microseconds, its identifier (one of 29 bits is 80000000 hex more), and how many data bytes it has.
-#[derive(Drop)]
+#[derive(Clone, Copy)]
 pub enum Found {
     Blank,
     Unreadable,
@@ -17,7 +18,7 @@ pub enum Found {
 }
 
 // How far a line was read. Numbers are, in this order: the time, or the seconds; the identifier; how many digits or data bytes; their number.
-#[derive(Drop)]
+#[derive(Clone, Copy)]
 pub enum Phase {
     Start,
     Blanks,
@@ -41,14 +42,14 @@ pub enum Phase {
 }
 
 // What a word is in an identifier's place: one of 29 bits is 80000000 hex more, as in a frame.
-#[derive(Drop)]
+#[derive(Clone, Copy)]
 pub enum Named {
     Id(u64),
     Nothing,
 }
 
 // A line under way: how far it was read, whether a CR stands there, the data bytes.
-#[derive(Drop)]
+#[derive(Clone, Copy)]
 pub struct Reader {
     pub phase: Phase,
     pub returned: bool,

@@ -1,4 +1,5 @@
 // A whole log of a capture: header and arguments of a call, the events and the replies of a text. What it is, is `capture` of the definitions.
+#![tactic(auto)]
 ghost use Rattle.std.specs.Prelude.{◌+◌, ◌*◌, ◌≤◌, true, ◌++◌, map, ◌≡◌, length};
 ghost use Rattle.rules.specs.Events.{plain, event_size, entries};
 ghost use Rattle.rules.specs.Logs.{form_in, header_of, argument_bytes};
@@ -18,7 +19,7 @@ use logs::writer::{put_event, put_header};
 use mend::{Recounted, recount};
 use wire::copy_into;
 
-#[derive(Drop)]
+#[derive(Clone, Copy)]
 pub enum Captured {
     // how many bytes at the buffer's front are the log
     Log(usize),

@@ -10,7 +10,7 @@ use requests::Call;
 use wire::part;
 
 // Of a reply, behind its first .0 bytes at most .1 bytes.
-#[derive(Drop)]
+#[derive(Clone, Copy)]
 struct Span(usize, usize);
 
 // n bytes, if exactly n follow SID and sub-function, and else none.

@@ -3,13 +3,13 @@ ghost use Rattle.std.specs.Prelude.{◌≡◌};
 ghost use Rattle.exchange.specs.Meaning.{deviation_number};
 
 // The upper bound of a length, if there is one.
-#[derive(Drop)]
+#[derive(Clone, Copy)]
 pub enum Maximum {
     None,
     At(usize),
 }
 
-#[derive(Drop)]
+#[derive(Clone, Copy)]
 pub enum ProtocolDeviation {
     InvalidServiceId,
     InvalidRequestServiceId,
@@ -30,7 +30,7 @@ pub enum ProtocolDeviation {
 }
 
 // A reply that breaks a rule: a deviation (strict), a length that cannot be read (lenient), or a block length above 2^64 - 1.
-#[derive(Drop)]
+#[derive(Clone, Copy)]
 pub enum Fault {
     ProtocolDeviation(ProtocolDeviation),
     InvalidResponseLength,
@@ -38,7 +38,7 @@ pub enum Fault {
 }
 
 // What checks in order say of a reply: all pass, or the first that fails.
-#[derive(Drop)]
+#[derive(Clone, Copy)]
 pub enum Verdict {
     Passed,
     Failed(Fault),

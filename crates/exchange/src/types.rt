@@ -2,7 +2,7 @@
 use crate::error::Fault;
 
 // A part of the lent reply bytes.
-#[derive(Drop)]
+#[derive(Clone, Copy)]
 pub struct Place {
     pub at: usize,
     pub len: usize,
@@ -12,35 +12,35 @@ impl Place {
     pub const NOWHERE: Place = Place { at: 0, len: 0 };
 }
 
-#[derive(Drop)]
+#[derive(Clone, Copy)]
 pub enum SubFunction {
     Absent,
     Given(u8),
 }
 
 // The overall timeout T, which may be absent.
-#[derive(Drop)]
+#[derive(Clone, Copy)]
 pub enum RequestTimeout {
     Never,
     At(u32),
 }
 
 // "the session record, two numbers that the host lends": P2 and P2*, in milliseconds.
-#[derive(Drop)]
+#[derive(Clone, Copy)]
 pub struct Timing {
     pub p2: u32,
     pub star: u32,
 }
 
 // "a limit of K notices, 0..255, or none"
-#[derive(Drop)]
+#[derive(Clone, Copy)]
 pub enum NoticeLimit {
     Unlimited,
     AtMost(u8),
 }
 
 // What the exchange knows of the request that was sent, the session's timing, and the limit of notices.
-#[derive(Drop)]
+#[derive(Clone, Copy)]
 pub struct Asked {
     pub sid: u8,
     pub sub: SubFunction,
@@ -49,21 +49,21 @@ pub struct Asked {
 }
 
 // How events are lent: without a source address, or with one.
-#[derive(Drop)]
+#[derive(Clone, Copy)]
 pub enum Form {
     Plain,
     Addressed,
 }
 
 // How the events of a channel are lent, and the address that the call listens to.
-#[derive(Drop)]
+#[derive(Clone, Copy)]
 pub struct Channel {
     pub form: Form,
     pub listens: u16,
 }
 
 // "time u32, kind u16, offset into reply bytes u16, length u16; kind 3 puts its number in length"; then the source address u16.
-#[derive(Drop)]
+#[derive(Clone, Copy)]
 pub struct Event {
     pub time: u32,
     pub kind: u16,
@@ -72,7 +72,7 @@ pub struct Event {
     pub source: u16,
 }
 
-#[derive(Drop)]
+#[derive(Clone, Copy)]
 pub enum Outcome {
     PositiveResponse(Place),
     Suppressed,
@@ -86,14 +86,14 @@ pub enum Outcome {
 }
 
 // What a reply does: it asks for patience, or settles the exchange.
-#[derive(Drop)]
+#[derive(Clone, Copy)]
 pub enum Step {
     Pending,
     Settles(Outcome),
 }
 
 // How many events or notices were read, and how many of them at times up to T.
-#[derive(Drop)]
+#[derive(Clone, Copy)]
 pub struct Count {
     pub all: usize,
     pub early: usize,
@@ -104,7 +104,7 @@ impl Count {
 }
 
 // An exchange that reads on. `hush`: suppressed, and no notice read; then what was read, and the notices among it.
-#[derive(Drop)]
+#[derive(Clone, Copy)]
 pub struct State {
     pub hush: bool,
     pub deadline: u64,
@@ -113,7 +113,7 @@ pub struct State {
 }
 
 // An exchange that is settled, before T is asked; `reply` is the reply that settled it.
-#[derive(Drop)]
+#[derive(Clone, Copy)]
 pub struct Settled {
     pub outcome: Outcome,
     pub time: u64,
@@ -123,14 +123,14 @@ pub struct Settled {
 }
 
 // What one event in time does: the exchange reads on, or ends.
-#[derive(Drop)]
+#[derive(Clone, Copy)]
 pub enum Turn {
     On(State),
     Ends(Settled),
 }
 
 // "Each answer carries the number of events read and of pending notices, the settling event included."
-#[derive(Drop)]
+#[derive(Clone, Copy)]
 pub struct Answer {
     pub outcome: Outcome,
     pub time: u64,

@@ -1,5 +1,6 @@
 // Document 02, request One: the selector over records of three fault-code bytes and one status byte, as call 15 hands them out behind the
 // availability mask. It refuses nothing; a broken tail is no record. What it selects, is `select` of `rules`.
+#![tactic(auto)]
 ghost use Rattle.std.specs.Prelude.{◌≤◌, ◌≡◌, Bool, cond, length};
 ghost use Rattle.rules.specs.Faults.{shares, select};
 ghost use Rattle.faults.specs.Found.{found_of};
@@ -32,7 +33,7 @@ pub fn count(mask: u8, records: &[u8]) -> usize
 }
 
 // Where a record begins, or that there is none.
-#[derive(Drop)]
+#[derive(Clone, Copy)]
 pub enum Found {
     At(usize),
     Nothing,

@@ -1,5 +1,6 @@
 // The door for C and Rust: one function for all calls on numbers and byte slices, and the number of a negative code's name. Its other functions stand in crates of their
 // own, `alfid_door`, `line_door`, `begin_door`, `begin_alfid_door`, `step_door` and `tick_door`; include/bintrochis.h says all of them to C.
+#![tactic(auto)]
 ghost use Rattle.std.specs.Prelude.{◌≡◌};
 ghost use Rattle.rules.specs.Codes.{name_number};
 ghost use Rattle.door.specs.Door.{fields};

@@ -1,4 +1,5 @@
 // Request Eight, "Import from candump": the lines of a text, byte by byte, in bounded memory. What is kept of them is `Kept` of `importing`.
+#![tactic(auto)]
 ghost use Rattle.std.specs.Prelude.{◌*◌, ◌-◌, ◌/◌, ◌≤◌, min, cond, ◌||◌, [], ◌≡◌, length, drop};
 ghost use Rattle.std.proofs.Math.Option.{none};
 ghost use Rattle.isotp.specs.Held.{given_of};
@@ -34,7 +35,7 @@ pub const REPLIES_AT: usize = 5120;
 pub const LOG_ROOM: usize = 70655;
 
 // The time of the request, once it is whole.
-#[derive(Drop)]
+#[derive(Clone, Copy)]
 pub enum Start {
     None,
     At(u64),
@@ -42,7 +43,7 @@ pub enum Start {
 
 // What is kept of the lines: the request's time, how many events and reply bytes, how many messages were given up, whether refusal 17 is due, and
 // how many bytes of text stand at the front of the lent buffer.
-#[derive(Drop)]
+#[derive(Clone, Copy)]
 pub struct Tally {
     pub start: Start,
     pub events: u64,
@@ -53,7 +54,7 @@ pub struct Tally {
 }
 
 // How far the lines were read. Where one is refused, its number and the refusal's stay; 0 is no refusal's.
-#[derive(Drop)]
+#[derive(Clone, Copy)]
 pub struct Import {
     pub refused: u8,
     pub line: u64,
@@ -65,7 +66,7 @@ pub struct Import {
 
 // How many bytes of lines stand at the front of the buffer for lines, and how many `dropped` lines are left out of them; how many bytes of events
 // and of replies stand in the buffer for a log.
-#[derive(Drop)]
+#[derive(Clone, Copy)]
 pub struct Told {
     pub lines: usize,
     pub left_out: u64,
@@ -74,7 +75,7 @@ pub struct Told {
 }
 
 // What a text comes to: refusal 15 or 17; refusal 14 or 16 of a line; or what is told.
-#[derive(Drop)]
+#[derive(Clone, Copy)]
 pub enum Outcome {
     Refused(u8),
     RefusedAt(u8, u64),
@@ -82,7 +83,7 @@ pub enum Outcome {
 }
 
 // How far a text was read: the line under way, and the lines before it.
-#[derive(Drop)]
+#[derive(Clone, Copy)]
 pub struct Stream {
     pub reader: Reader,
     pub import: Import,

@@ -1,4 +1,5 @@
 // `isotp` joins the frames of one identifier into messages, by ISO 15765-2.
+#![tactic(auto)]
 ghost use Rattle.std.specs.Prelude.{◌≡◌, ◌+◌, ◌≤◌, ◌<◌, min, length, false};
 ghost use Rattle.isotp.specs.Joining.{idle, singles, firsts, goes_on, feed};
 ghost use Rattle.isotp.specs.declared.Gives.TheVariants.{Nothing};
@@ -8,7 +9,7 @@ ghost use Rattle.isotp.specs.Held.{joiner_of, settled, state_in, state_of, Sound
 pub const LONGEST: usize = 4095;
 
 // A message under way: the bytes still due (0: there is no message), the next frame's number, and how many bytes are there.
-#[derive(Drop)]
+#[derive(Clone, Copy)]
 pub struct Joiner {
     pub due: usize,
     pub next: u8,
@@ -16,14 +17,14 @@ pub struct Joiner {
 }
 
 // What a frame gives: nothing, or a message of so many bytes.
-#[derive(Drop)]
+#[derive(Clone, Copy)]
 pub enum Gives {
     Nothing,
     Message(usize),
 }
 
 // What a frame does: the message under way from now on, whether the one before is dropped, and what is given.
-#[derive(Drop)]
+#[derive(Clone, Copy)]
 pub struct Heard {
     pub joiner: Joiner,
     pub drops: bool,

@@ -1,6 +1,7 @@
 // log2uds REQUEST REPLY [CALL]: the text of `candump -L` on standard input; on standard output the request and its replies as lines, or, with CALL, a
 // log without events, the log of that call with the events of the text, and the other lines on standard error. A read or a write that fails is the
 // launcher's, `log2uds`.
+#![tactic(auto)]
 ghost use Rattle.std.specs.Prelude.{◌+◌, ◌-◌, ◌≤◌, ◌<◌, cond, true, false, not, ◌||◌, ◌∷◌, ◌++◌, [], ◌≡◌, eqb, length, take, drop};
 ghost use Rattle.imports.specs.Held.{stream_of, written_of};
 ghost use Rattle.log2uds.specs.Streams.{is_reply, noted, shown, left_in, reported, log_shown, log_said};
@@ -112,7 +113,7 @@ fn put_said(lines: &[u8], left: u64, out: &mut [u8]) -> usize
 }
 
 // How many bytes at the front of two buffers are for standard output, and for standard error.
-#[derive(Drop)]
+#[derive(Clone, Copy)]
 struct Streams {
     out: usize,
     said: usize,
@@ -160,7 +161,7 @@ fn put_capture(
 }
 
 // How much of the text was read, and whether it has ended.
-#[derive(Drop)]
+#[derive(Clone, Copy)]
 struct Turn {
     stream: Stream,
     ended: bool,
@@ -198,7 +199,7 @@ fn read_more(
 }
 
 // How many turns are left, and whether the text has ended. (The last turn of all counts as the end.)
-#[derive(Drop)]
+#[derive(Clone, Copy)]
 struct Left {
     turns: u64,
     ended: bool,
@@ -228,7 +229,7 @@ fn turns_left(turns: u64, ended: bool, settled: bool) -> Left
 }
 
 // What comes of a text, and whether it was read to its end.
-#[derive(Drop)]
+#[derive(Clone, Copy)]
 struct Whole {
     outcome: Outcome,
     ended: bool,
@@ -264,7 +265,7 @@ fn import(
 }
 
 // What goes to both streams, and whether the text was read to its end.
-#[derive(Drop)]
+#[derive(Clone, Copy)]
 struct Imported {
     out: usize,
     said: usize,

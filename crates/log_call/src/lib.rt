@@ -1,4 +1,5 @@
 // The call that a log asks: what the fields of its header say, and how it is made.
+#![tactic(auto)]
 ghost use Rattle.std.specs.Prelude.{true, cond, List, ◌≡◌, ℕ, ◌/◌, ◌%◌, ◌<◌, eqb};
 ghost use Rattle.rules.specs.Calls.{Field};
 ghost use Rattle.rules.specs.Logs as rules;
@@ -108,7 +109,7 @@ fn ask_for(h: Header) -> Ask
 }
 
 // What a header's fields ask: a call, or none, since they do not suit their call.
-#[derive(Drop)]
+#[derive(Clone, Copy)]
 pub enum Fields {
     Ask(Ask),
     Unsound,
@@ -125,7 +126,7 @@ pub fn ask_of(h: Header) -> Fields
 }
 
 // A log's header, where every test of the layout passes but that the fields suit the call; or it is no log.
-#[derive(Drop)]
+#[derive(Clone, Copy)]
 pub enum Laid {
     Out(Header),
     BadLog,
@@ -147,7 +148,7 @@ pub fn laid_in(log: &[u8]) -> Laid
 }
 
 // What a log asks: its header and the call of its fields; or it is no log.
-#[derive(Drop)]
+#[derive(Clone, Copy)]
 pub enum Recorded {
     Call(Header, Ask),
     BadLog,

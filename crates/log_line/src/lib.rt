@@ -1,4 +1,5 @@
 // From a log to its answer, and from there to its line.
+#![tactic(auto)]
 ghost use Rattle.rules.specs.Logs.{line_of};
 ghost use Rattle.text.specs.Written.{Wrote};
 ghost use Rattle.log_line.specs.Answered.{AnsweredIn};
@@ -13,7 +14,7 @@ use text::{Written, put_line};
 pub mod answers;
 
 // The answer of the call that a log asks, with the log's header, which says where the reply bytes are that it names; or it is no log.
-#[derive(Drop)]
+#[derive(Clone, Copy)]
 pub enum LogAnswer {
     Answer(Header, Answer),
     BadLog,

@@ -1,5 +1,6 @@
 // The lines of a file of logs, as it is read in parts: what has come is taken up to the last log that is whole, and its lines are written. Beside
 // them stands what is to be said of the file: a length that no log has, and a log that the file ends in.
+#![tactic(auto)]
 ghost use Rattle.std.specs.Prelude.{◌+◌, ◌≤◌, ◌<◌, ◌≡◌, length};
 ghost use Rattle.rules.specs.Logs.{line_of};
 ghost use Rattle.text.specs.Written.{Put};
@@ -17,7 +18,7 @@ pub const SAID: usize = 60;
 
 // How much of the input was taken, how many bytes at the front of a buffer are lines, and how many bytes of a log that is too long are still
 // to be passed over. Then how many logs have their line, and how many bytes at the front of another buffer are to be said.
-#[derive(Drop)]
+#[derive(Clone, Copy)]
 pub struct Batch {
     pub left: usize,
     pub taken: usize,
@@ -27,7 +28,7 @@ pub struct Batch {
 }
 
 // How many bytes at the front of two buffers are a line, and to be said.
-#[derive(Drop)]
+#[derive(Clone, Copy)]
 pub struct Ending {
     pub written: usize,
     pub said: usize,

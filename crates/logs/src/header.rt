@@ -30,7 +30,7 @@ pub fn moved_by(form: Form) -> usize
 }
 
 // Of an area: how many (bytes or events), and where it begins.
-#[derive(Drop)]
+#[derive(Clone, Copy)]
 pub struct Header {
     pub version: u16,
     pub call: u8,

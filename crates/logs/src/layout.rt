@@ -13,7 +13,7 @@ use exchange::events::{event_at, event_count, event_size};
 use exchange::types::{Event, Form};
 
 // What a call uses, a row of `uses_by_call` of `rules`: the largest value, sub and lengths, whether flag 16 is its own, and whether data may and must be present.
-#[derive(Drop)]
+#[derive(Clone, Copy)]
 pub struct Uses(pub u16, pub u8, pub u8, pub u8, pub u8, pub u8);
 
 pub fn uses_of(call: u8) -> Uses

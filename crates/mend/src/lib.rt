@@ -1,4 +1,5 @@
 // Request Ten, "Mend a damaged log": the mended log is written into a lent buffer. What it is, is `mend` of `mending`.
+#![tactic(auto)]
 ghost use Rattle.std.specs.Prelude.{◌+◌, ◌*◌, ◌≤◌, ◌++◌, ◌≡◌, length, take};
 ghost use Rattle.rules.specs.Events.{event_size, entries};
 ghost use Rattle.rules.specs.Logs.{header_size, form_in};
@@ -23,13 +24,13 @@ const MOST_READ: usize = 65535;
 const MOST_EVENTS: usize = 512;
 
 // The header that was read, and the one that was written in its place: they say the events promised and kept, and each field rewritten.
-#[derive(Drop)]
+#[derive(Clone, Copy)]
 pub struct Report {
     pub old: Header,
     pub new: Header,
 }
 
-#[derive(Drop)]
+#[derive(Clone, Copy)]
 pub enum Mended {
     // how many bytes at the buffer's front are the mended log
     Log(usize, Report),
@@ -134,7 +135,7 @@ fn corrected(h: Header, events: usize, replies: usize) -> Header
 }
 
 // The header of a log with so many events and reply bytes; or the log would be longer than a total can say.
-#[derive(Drop)]
+#[derive(Clone, Copy)]
 pub enum Recounted {
     Header(Header),
     TooLong,

@@ -1,4 +1,5 @@
 // An answer as fifteen numbers, which C and Rust can read.
+#![tactic(auto)]
 ghost use Rattle.std.specs.Prelude.{List, ◌≡◌, ℕ};
 ghost use Rattle.rules.specs.Answers.{fault};
 ghost use Rattle.exchange.specs.Meaning.{outcome_of, deviation_of, maximum_of};
@@ -10,7 +11,7 @@ use exchange::error::{Fault, Maximum, ProtocolDeviation, deviation_number};
 use exchange::types::Outcome;
 
 // An outcome's number and values, deviation 8's bounds, and the place of a positive's data.
-#[derive(Drop)]
+#[derive(Clone, Copy)]
 struct Values {
     outcome: u64,
     detail: u64,

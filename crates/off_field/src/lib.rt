@@ -1,4 +1,5 @@
 // Of a bad log the first field that is off, and what it should be, as a line that is added to a text.
+#![tactic(auto)]
 ghost use Rattle.std.specs.Prelude.{false, [], ◌++◌, map, ◌≡◌, ◌+◌, ◌-◌, ◌*◌, ◌≤◌, ◌<◌, min, get_or, length};
 ghost use Rattle.std.proofs.Math.Option.{some};
 ghost use Rattle.rules.specs.Events.{event_size, entries};
@@ -20,7 +21,7 @@ use text::{append, append_decimal};
 use wire::part;
 
 // Where a number stands, the number found there, and between which it should lie.
-#[derive(Drop)]
+#[derive(Clone, Copy)]
 struct Numbers {
     at: u64,
     found: u64,
@@ -247,7 +248,7 @@ fn put_numbers(text: &mut [u8], at: usize, f: Numbers) -> usize
 }
 
 // Where a name stands among all of them, and how long it is.
-#[derive(Drop)]
+#[derive(Clone, Copy)]
 struct Span(usize, usize);
 
 fn name_at(i: usize) -> Span

@@ -1,5 +1,6 @@
 // Replays the lists of data/ and prints how many lines of each are right. In `NAME.bin` each case stands after its length as u32, big-endian;
 // `NAME.expected` has the line of each.
+#![tactic(auto)]
 use blocks::Cut;
 use faults::Found;
 use lengths::Number;
@@ -8,7 +9,7 @@ use text::{Written, put_line};
 use wire::part;
 
 // What the cases of a list are.
-#[derive(Drop)]
+#[derive(Clone, Copy)]
 enum List {
     Logs,
     Blocks,
@@ -27,7 +28,7 @@ const LONGEST_LINE: usize = 18048;
 // At the door, in place of a limit of notices: none.
 const NO_LIMIT: u16 = 65535;
 
-#[derive(Drop)]
+#[derive(Clone, Copy)]
 enum Byte {
     Next(u8),
     End,
@@ -301,7 +302,7 @@ fn line_of(list: List, case: &[u8], line: &mut [u8]) -> Written {
     }
 }
 
-#[derive(Drop)]
+#[derive(Clone, Copy)]
 enum Replayed {
     Right,
     Wrong,
@@ -339,7 +340,7 @@ fn replay_one(list: List, cases: i32, lines: i32) -> Replayed {
     }
 }
 
-#[derive(Drop)]
+#[derive(Clone, Copy)]
 struct Tally {
     right: u64,
     wrong: u64,

@@ -1,4 +1,5 @@
 // The sixteen calls, their requests into a lent buffer, and refusals 1 to 9.
+#![tactic(auto)]
 ghost use Rattle.std.specs.Prelude.{◌+◌, ◌≤◌, cond, [], ◌++◌, ◌≡◌, length};
 ghost use Rattle.requests.specs.Meaning.{data_bytes};
 ghost use Rattle.requests.specs.Parameters.{bit7, opening_of, head_of};
@@ -12,14 +13,14 @@ mod parameters;
 pub mod rows;
 
 // Whether data is given beside a call: absent is not empty.
-#[derive(Drop)]
+#[derive(Clone, Copy)]
 pub enum Data {
     Absent,
     Present,
 }
 
 // The calls 0 to 15 with their numbers, under the names of the Rust's services. Address, size and data stand beside it as slices.
-#[derive(Drop)]
+#[derive(Clone, Copy)]
 pub enum Call {
     Request(u8, SubFunction, Data),
     DiagnosticSessionControl(u8),
@@ -40,7 +41,7 @@ pub enum Call {
 }
 
 // A request, worked out once: its first bytes, which of the caller's slices stand behind them, and how long it is. A refused one has none of these.
-#[derive(Drop)]
+#[derive(Clone, Copy)]
 pub struct Prepared {
     // 0 where there is none
     pub refusal: u8,
@@ -86,7 +87,7 @@ pub fn with_bit7(quiet: bool, sub: SubFunction) -> SubFunction
 }
 
 // How many bytes of a request stand before its slices, and these with zeros behind them.
-#[derive(Drop)]
+#[derive(Clone, Copy)]
 struct Head(u8, [u8; 4]);
 
 // SID, sub-function and the parameters that are numbers.

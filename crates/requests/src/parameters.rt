@@ -7,13 +7,13 @@ use crate::rows::{Numbers, Takes};
 use wire::types::{Compression, CompressionMethod, Encryption, EncryptionMethod, data_format};
 
 // A byte that joins two nibbles, or the refusal of one of them.
-#[derive(Drop)]
+#[derive(Clone, Copy)]
 pub enum Format {
     Byte(u8),
     Refused(u8),
 }
 
-#[derive(Drop)]
+#[derive(Clone, Copy)]
 pub enum Parameters {
     // numbers, whether address and size stand behind them, and whether the data do
     Sent(Numbers, bool, Data),

@@ -8,7 +8,7 @@ use exchange::types::SubFunction;
 use wire::constants::{ReportType, ServiceIdentifier, ZERO_SUB_FUNCTION};
 
 // The parameters that are numbers.
-#[derive(Drop)]
+#[derive(Clone, Copy)]
 pub enum Numbers {
     None,
     One(u8),
@@ -16,7 +16,7 @@ pub enum Numbers {
 }
 
 // What stands behind SID and sub-function.
-#[derive(Drop)]
+#[derive(Clone, Copy)]
 pub enum Takes {
     // numbers, and data if it is given
     Plain(Numbers, Data),
@@ -29,7 +29,7 @@ pub enum Takes {
 }
 
 // The call's number, its SID, the sub-function that the caller gives or the table fixes, and what it takes.
-#[derive(Drop)]
+#[derive(Clone, Copy)]
 pub struct Row {
     pub number: u8,
     pub sid: u8,

@@ -1,5 +1,6 @@
 // Document 02, request Five: the server end. "it takes a request and a small store .. and writes a reply, or stays silent under suppression."
 // First it decides, and looks only; then it says the reply; and what was asked to be written is written last, where the reply has room.
+#![tactic(auto)]
 ghost use Rattle.std.specs.Prelude.{◌≡◌, ◌++◌, ◌<◌, get_or};
 ghost use Rattle.bench.specs.Stores.{store_of, counted};
 ghost use Rattle.rules.specs.Refusals.{between};
@@ -15,7 +16,7 @@ use wire::error::NegativeResponseCode;
 use wire::{byte_at, copy_into, part, u16_at};
 
 // What is decided of a request: a negative's code, silence, or a service's positive and where its data stands in the store.
-#[derive(Drop)]
+#[derive(Clone, Copy)]
 enum Decision {
     Refuse(u8),
     KeepSilent,
@@ -29,7 +30,7 @@ enum Decision {
 }
 
 // How long the reply is that stands at the buffer's front; none; or refusal 13, the buffer has no room for it.
-#[derive(Drop)]
+#[derive(Clone, Copy)]
 pub enum Response {
     Replied(usize),
     Silent,

@@ -1,4 +1,5 @@
 // The session record that the host lends: a whole call over it, and calls in a session that is kept by value.
+#![tactic(auto)]
 ghost use Rattle.std.specs.Prelude.{◌≡◌};
 ghost use Rattle.requests.specs.Meaning.{call_of};
 ghost use Rattle.calls.specs.Meaning.{setting_of, lent_of, Called};
@@ -17,7 +18,7 @@ pub fn handed_out<'r>(answered: Answered, replies: &'r [u8]) -> &'r [u8]
 }
 
 // The answer, and the data that it hands out.
-#[derive(Drop)]
+#[derive(Clone, Copy)]
 pub struct Handed<'r> {
     pub answer: Answered,
     pub bytes: &'r [u8],

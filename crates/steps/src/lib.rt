@@ -1,4 +1,5 @@
 // Request Eleven: "a second engine with a state record: begin, one event, or a tick". It takes the list engine's own turns, one event at a time.
+#![tactic(auto)]
 ghost use Rattle.std.specs.Prelude.{◌≡◌};
 ghost use Rattle.exchange.specs.Meaning.{entry_of, overall_of};
 ghost use Rattle.steps.specs.Stepping.{asked_in, past_of, refusing, going_on, late_of, Settles, tick_of, Turned, HandsIn, Hands, begun_by, Begins};
@@ -14,7 +15,7 @@ use requests::rows::row_of;
 use requests::with_bit7;
 
 // What the engine was begun with: the call, the session's timing, and how many bytes were sent.
-#[derive(Drop)]
+#[derive(Clone, Copy)]
 pub struct Begun {
     pub ask: Ask,
     pub session: Timing,
@@ -22,14 +23,14 @@ pub struct Begun {
 }
 
 // It waits, or it has settled and this was decided.
-#[derive(Drop)]
+#[derive(Clone, Copy)]
 pub enum Phase {
     Waiting(State),
     Settled(Answered),
 }
 
 // The state record that a host keeps. `last` is the time of the last step that was taken.
-#[derive(Drop)]
+#[derive(Clone, Copy)]
 pub struct Engine {
     pub begun: Begun,
     pub last: u64,
@@ -37,7 +38,7 @@ pub struct Engine {
 }
 
 // A step's own answer, 0 where it was taken, and the engine behind it.
-#[derive(Drop)]
+#[derive(Clone, Copy)]
 pub struct Stepped {
     pub refusal: u8,
     pub engine: Engine,

@@ -1,4 +1,5 @@
 // The store of the bench responder, read out of its one area of bytes. Any bytes can be read; `sound` says whether they are a store.
+#![tactic(auto)]
 ghost use Rattle.std.specs.Prelude.{◌≡◌, ◌+◌, ◌-◌, ◌*◌, ◌<◌};
 ghost use Rattle.rules.specs.Bytes.{value, every};
 ghost use Rattle.bench.specs.Stores.{store_of, slot_of, known, store_ok};
@@ -20,7 +21,7 @@ fn wide64(n: u32) -> u64
 }
 
 // "Identifier, 6 bytes: identifier u16, offset into the record bytes u16, length u16."
-#[derive(Drop)]
+#[derive(Clone, Copy)]
 struct Slot {
     id: u16,
     offset: u16,
@@ -74,7 +75,7 @@ fn is_known(store: &[u8], slot: Slot) -> bool
 }
 
 // Where an identifier's record stands in the store; or it is unknown.
-#[derive(Drop)]
+#[derive(Clone, Copy)]
 pub enum Record {
     Known(usize, usize),
     Unknown,
@@ -91,7 +92,7 @@ pub fn record_of(store: &[u8], id: u16) -> Record
 }
 
 // How far an address lies behind the memory's first one; too far is 65,536 bytes or more, and before it.
-#[derive(Drop)]
+#[derive(Clone, Copy)]
 enum Distance {
     Near(usize),
     Far,
@@ -157,7 +158,7 @@ fn first_address(store: &[u8]) -> u64
 }
 
 // Where a part of the memory stands in the store; or it is none: empty, or not inside.
-#[derive(Drop)]
+#[derive(Clone, Copy)]
 pub enum Memory {
     Inside(usize, usize),
     Outside,

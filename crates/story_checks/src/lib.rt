@@ -1,5 +1,6 @@
 // The checks behind a positive, each as it was passed or failed. What a reply was judged to be is known already: the answer says which check failed,
 // and those before it in the call's row passed.
+#![tactic(auto)]
 ghost use Rattle.std.specs.Prelude.{◌≤◌, [], ◌≡◌, eqb, length, take};
 ghost use Rattle.rules.specs.After.{reset_length};
 ghost use Rattle.rules.specs.Answers as answers;
@@ -28,14 +29,14 @@ const NO_CHECK: u16 = 1;
 const WHOLE_RECORDS: u16 = 17;
 
 // A call's checks, in their order.
-#[derive(Drop)]
+#[derive(Clone, Copy)]
 struct Row {
     count: usize,
     codes: [u16; 6],
 }
 
 // Words, and how many of the bytes they are.
-#[derive(Drop)]
+#[derive(Clone, Copy)]
 struct Words {
     bytes: [u8; 34],
     len: usize,

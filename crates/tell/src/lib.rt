@@ -1,4 +1,5 @@
 // The story of a log, written into a lent buffer. What it is, is `story` of `telling`.
+#![tactic(auto)]
 ghost use Rattle.rules.specs.Logs.{line_of};
 ghost use Rattle.telling.specs.Telling.{telling, story};
 ghost use Rattle.text.specs.Written.{Adds};
@@ -16,7 +17,7 @@ mod sound;
 pub const LONGEST: usize = 163840;
 
 // How many bytes at the buffer's front are the story; or the buffer is shorter than `LONGEST`, and is left as it was.
-#[derive(Drop)]
+#[derive(Clone, Copy)]
 pub enum Told {
     Story(usize),
     NoRoom,

@@ -1,4 +1,5 @@
 // Lines of text, written into a lent buffer. Document 01's: "outcome, finishing time, events read, notices, detail" and a newline.
+#![tactic(auto)]
 ghost use Rattle.std.specs.Prelude.{◌≡◌, [], ◌∷◌, ◌++◌, ◌+◌, ◌/◌, ◌%◌, ◌<◌, ◌≤◌, leb, length};
 ghost use Rattle.rules.specs.Lines.{digit, decimal, hex, hex_or_dash, spaced};
 ghost use Rattle.text.specs.Written.{Put, Wrote, Appended, text, counted, shown, room, behind, hex_behind, item};
@@ -10,7 +11,7 @@ pub mod words;
 pub const LONGEST: usize = 8222;
 
 // How long the line is that stands at the buffer's front; or the buffer has no room for it, and is left as it was.
-#[derive(Drop)]
+#[derive(Clone, Copy)]
 pub enum Written {
     Line(usize),
     NoRoom,

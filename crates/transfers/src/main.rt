@@ -1,5 +1,6 @@
 // A worked path from a session to a download and its transfers: the timing that the session gave, the block length that call 11 returned, the blocks cut,
 // each sent by call 13 with its counter and answered.
+#![tactic(auto)]
 use blocks::Cut;
 use calls::{Answered, Ask};
 use exchange::types::{Channel, Form, NoticeLimit, RequestTimeout, Timing};

@@ -5,7 +5,7 @@ ghost use Rattle.uds.specs.Defaults.{defaults};
 use exchange::types::{Channel, Form, NoticeLimit, RequestTimeout};
 
 // Configuration for a `UDSClient`, times in milliseconds.
-#[derive(Drop)]
+#[derive(Clone, Copy)]
 pub struct UDSConfig {
     // Initial response wait. When suppression is requested, silence through this window is successful unless NRC 0x78 was received.
     pub p2_timeout: u32,

@@ -12,7 +12,7 @@ use exchange::types::SubFunction;
 use requests::{Call, Data};
 
 // A view of a `UDSClient` that sets bit 7 of the sub-function. Services without a sub-function are called on `client`.
-#[derive(Drop)]
+#[derive(Clone, Copy)]
 pub struct SuppressedUDSClient {
     pub client: UDSClient,
 }

@@ -3,13 +3,13 @@ ghost use Rattle.std.specs.Prelude.{◌≡◌};
 ghost use Rattle.uds.specs.Typed.{session_record, power_down, fault_report};
 
 // Struct returned by DiagnosticSessionControl (0x10), in milliseconds
-#[derive(Drop)]
+#[derive(Clone, Copy)]
 pub struct SessionParameterRecord {
     pub p2_server_max: u32,
     pub p2_star_server_max: u32,
 }
 
-#[derive(Drop)]
+#[derive(Clone, Copy)]
 pub enum SessionRecord {
     None,
     Some(SessionParameterRecord),
@@ -31,7 +31,7 @@ pub fn session_parameter_record(bytes: &[u8]) -> SessionRecord
     }
 }
 
-#[derive(Drop)]
+#[derive(Clone, Copy)]
 pub enum PowerDownTime {
     None,
     Some(u8),
@@ -49,7 +49,7 @@ pub fn power_down_time(bytes: &[u8]) -> PowerDownTime
 }
 
 // DTC format identifiers defined in ISO 14229, Annex D
-#[derive(Drop)]
+#[derive(Clone, Copy)]
 pub struct DTCFormatIdentifier(pub u8);
 
 impl DTCFormatIdentifier {
@@ -65,14 +65,14 @@ impl DTCFormatIdentifier {
 }
 
 // Struct returned by ReadDTCInformation (0x19)
-#[derive(Drop)]
+#[derive(Clone, Copy)]
 pub struct DTCReportNumberByStatusMask {
     pub dtc_status_availability_mask: u8,
     pub dtc_format_identifier: u8,
     pub dtc_count: u16,
 }
 
-#[derive(Drop)]
+#[derive(Clone, Copy)]
 pub enum DTCReport {
     None,
     Some(DTCReportNumberByStatusMask),

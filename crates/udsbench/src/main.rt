@@ -1,4 +1,5 @@
 // udsbench STORE: plays the server end. Each line of standard input is a request, and each gets exactly one line, as soon as it has come.
+#![tactic(auto)]
 ghost use Rattle.std.specs.Prelude.{◌-◌, ◌≤◌, ◌≡◌, length, take};
 ghost use Rattle.bench.specs.Talk.{talk};
 ghost use Rattle.udsbench.specs.Hearing.{bench, heard, hearing, Heard, Keeps, Fills};
@@ -61,7 +62,7 @@ fn hear(store: &mut [u8], input: &[u8], kept: &mut [u8], len: usize) -> usize
 }
 
 // How much of a line is kept; or the input has ended.
-#[derive(Drop)]
+#[derive(Clone, Copy)]
 enum Input {
     More(usize),
     End,
@@ -113,7 +114,7 @@ fn talk_over(store: &mut [u8]) {
 }
 
 // How many bytes of a file were read; or it cannot be read.
-#[derive(Drop)]
+#[derive(Clone, Copy)]
 enum Loaded {
     Bytes(usize),
     Failed,

@@ -1,4 +1,5 @@
 // A book of logs: an empty one, one with a log more, a log of it, and its summary as text. A read or a write that fails is the launcher's, `udsbook`.
+#![tactic(auto)]
 ghost use Rattle.std.specs.Prelude.{◌≤◌, [], ◌≡◌, length, take};
 ghost use Rattle.book_words.specs.declared.Command.TheVariants as command;
 ghost use Rattle.udsbook.specs.Streams.{Answers};
@@ -12,7 +13,7 @@ use wire::part;
 
 // What is for standard output, so many bytes from an index on of the buffer that the book was read to; and how many bytes at the other's front are for
 // standard error.
-#[derive(Drop)]
+#[derive(Clone, Copy)]
 struct Ends {
     at: usize,
     out: usize,

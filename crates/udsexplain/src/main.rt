@@ -1,4 +1,5 @@
 // Reads one log from standard input and prints its story. A read or a write that fails is the launcher's, `udsexplain`.
+#![tactic(auto)]
 ghost use Rattle.std.specs.Prelude.{◌≤◌, ◌≡◌, length, take};
 ghost use Rattle.telling.specs.Telling.{story};
 

@@ -1,4 +1,5 @@
 // Reads one log from standard input and prints its line. A read or a write that fails is the launcher's, `udslog`.
+#![tactic(auto)]
 ghost use Rattle.std.specs.Prelude.{◌≤◌, ◌≡◌, length, take};
 ghost use Rattle.rules.specs.Logs.{line_of};
 

@@ -1,5 +1,6 @@
 // Reads a file of logs from standard input, each after its length, and prints the line of each, in bounded memory; on standard error it says where a
 // length is none that a log has, and in which log the file ends. A read or a write that fails is the launcher's, `udslogs`.
+#![tactic(auto)]
 ghost use Rattle.std.specs.Prelude.{◌≤◌, ◌<◌, length};
 ghost use Rattle.log_lines.specs.Batches.{Waits};
 ghost use Rattle.udslogs.specs.Turns.{Inside, held_of, Printed, Read, Closed};
@@ -10,7 +11,7 @@ use wire::{copy_into, part};
 
 // Where a run is: what is held of the input stands in a buffer from index `from` on, and `left` bytes of it or behind it are of a log that is
 // too long. So many `logs` have their line. `waits`: nothing could be taken of what is held; `ended`: nothing more comes.
-#[derive(Drop)]
+#[derive(Clone, Copy)]
 struct Run {
     left: usize,
     logs: u64,

@@ -1,5 +1,6 @@
 // Reads a damaged log from standard input; writes the mended one to standard output, and what was mended to standard error. A read or a write
 // that fails is the launcher's, `udsmend`.
+#![tactic(auto)]
 ghost use Rattle.std.specs.Prelude.{◌≤◌, length};
 ghost use Rattle.udsmend.specs.Streams.{Holds};
 
@@ -11,7 +12,7 @@ use wire::part;
 mod report;
 
 // How many bytes at the front of each buffer are for standard output, and for standard error.
-#[derive(Drop)]
+#[derive(Clone, Copy)]
 struct Streams {
     out: usize,
     said: usize,

@@ -6,7 +6,7 @@ pub const NEGATIVE_RESPONSE: u8 = 0x7f;
 pub const ZERO_SUB_FUNCTION: u8 = 0x00;
 
 // Service Identifiers (SIDs) as defined in ISO 14229
-#[derive(Drop)]
+#[derive(Clone, Copy)]
 pub struct ServiceIdentifier(pub u8);
 
 impl ServiceIdentifier {
@@ -65,7 +65,7 @@ impl ServiceIdentifier {
 }
 
 // Standard Data Identifiers (DIDs) as defined in ISO 14229
-#[derive(Drop)]
+#[derive(Clone, Copy)]
 pub struct DataIdentifier(pub u16);
 
 impl DataIdentifier {
@@ -133,7 +133,7 @@ impl DataIdentifier {
 }
 
 // Diagnostic Session Type Sub-Function ID as defined in ISO 14229
-#[derive(Drop)]
+#[derive(Clone, Copy)]
 pub struct SessionType(pub u8);
 
 impl SessionType {
@@ -147,7 +147,7 @@ impl SessionType {
 }
 
 // ECU Reset Sub-Function ID as defined in ISO 14229
-#[derive(Drop)]
+#[derive(Clone, Copy)]
 pub struct ResetType(pub u8);
 
 impl ResetType {
@@ -162,7 +162,7 @@ impl ResetType {
 }
 
 // Security Access Type Sub-Function ID as defined in ISO 14229
-#[derive(Drop)]
+#[derive(Clone, Copy)]
 pub struct SecurityAccessType(pub u8);
 
 impl SecurityAccessType {
@@ -172,7 +172,7 @@ impl SecurityAccessType {
 }
 
 // Routine Control Sub-Function ID as defined in ISO 14229
-#[derive(Drop)]
+#[derive(Clone, Copy)]
 pub struct RoutineControlType(pub u8);
 
 impl RoutineControlType {
@@ -184,7 +184,7 @@ impl RoutineControlType {
 }
 
 // Read DTC Information Sub-Function ID as defined in ISO 14229
-#[derive(Drop)]
+#[derive(Clone, Copy)]
 pub struct ReportType(pub u8);
 
 impl ReportType {
@@ -242,7 +242,7 @@ impl ReportType {
 }
 
 // Standard routine identifiers defined in ISO 14229, Annex F. Other routine identifiers can be passed as raw `u16` values
-#[derive(Drop)]
+#[derive(Clone, Copy)]
 pub struct RoutineIdentifier(pub u16);
 
 impl RoutineIdentifier {

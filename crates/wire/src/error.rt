@@ -1,6 +1,6 @@
 // Negative response codes under the Rust's names. What went wrong with a call is `exchange::types::Outcome`, a deviation `exchange::error::ProtocolDeviation`.
 // Negative Response Codes returned by ECU as defined in ISO 14229
-#[derive(Drop)]
+#[derive(Clone, Copy)]
 pub struct NegativeResponseCode(pub u8);
 
 impl NegativeResponseCode {

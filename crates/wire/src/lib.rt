@@ -1,4 +1,5 @@
 // Bytes and numbers, high byte first: reads, copies into a lent buffer, and the two nibble types of a download.
+#![tactic(auto)]
 ghost use Rattle.std.specs.Prelude.{◌≡◌, ◌<◌, get_or, take, drop};
 ghost use Rattle.rules.specs.Bytes.{u16_at, u32_at};
 ghost use Rattle.rules.specs.Refusals.{widest};
@@ -86,7 +87,7 @@ pub fn copy_into(buffer: &mut [u8], at: usize, source: &[u8]) -> bool
 }
 
 // A number as so many bytes, which stand at the front; behind them are zeros.
-#[derive(Drop)]
+#[derive(Clone, Copy)]
 pub struct MemoryBytes {
     // 0 where there is none
     pub refusal: u8,

@@ -3,20 +3,20 @@ ghost use Rattle.std.specs.Prelude.{◌≡◌};
 ghost use Rattle.wire.specs.Methods.{compression, encryption, data_format};
 
 // Download/upload compression method, the high nibble of the data format byte. Zero means no compression.
-#[derive(Drop)]
+#[derive(Clone, Copy)]
 pub struct CompressionMethod(pub u8);
 
 // Download/upload encryption method, the low nibble of the data format byte. Zero means no encryption.
-#[derive(Drop)]
+#[derive(Clone, Copy)]
 pub struct EncryptionMethod(pub u8);
 
-#[derive(Drop)]
+#[derive(Clone, Copy)]
 pub enum Compression {
     Method(CompressionMethod),
     Refused(u8),
 }
 
-#[derive(Drop)]
+#[derive(Clone, Copy)]
 pub enum Encryption {
     Method(EncryptionMethod),
     Refused(u8),

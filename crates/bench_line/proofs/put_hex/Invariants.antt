@@ -1,0 +1,13 @@
+-- `bench_line::put_hex` meets its contract: the digits of i bytes are written.
+use Prim.Native.Nat.{◌-◌, ◌*◌, ◌≤◌}
+use mathlib.Core.Path.{◌≡◌}
+use lib.ListN.{length, take}
+use Rattle.rules.specs.Lines.{hex}
+use Rattle.text.specs.Written.{Put}
+use Rattle.bench_line.proofs.put_hex.Given as goal
+
+abbrev pub invariant-loop-i : goal.invariant-loop-i
+invariant-loop-i l = (l.i ≤ length l.bytes) × Put l.initial.line 0 (hex (take l.i l.bytes)) l.line (l.i * 2) × (length l.line ≡ length l.initial.line)
+
+abbrev pub decreases-loop-i : goal.decreases-loop-i
+decreases-loop-i l = length l.bytes - l.i

@@ -1,0 +1,14 @@
+-- `put_usage` meets its contract.
+use Rattle.book_text.specs.Texts.{usage}
+use Rattle.book_text.proofs.Texts.{usage-put, usage-not-put}
+use Rattle.book_text.proofs.put_usage.Goals as goal
+
+pub returns-then-copy_into : goal.returns-then-copy_into
+unfolding usage
+returns-then-copy_into c =
+    usage-put c.args.text.now c.copy_into.new.0 (rw c.if-copy_into.true c.before.before.before c.copy_into.ensures)
+
+pub returns : goal.returns
+unfolding usage
+returns c =
+    usage-not-put c.args.text.now c.copy_into.new.0 (rw c.if-copy_into.false c.before.before.before c.copy_into.ensures)

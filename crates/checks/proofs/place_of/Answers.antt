@@ -1,0 +1,26 @@
+-- `checks::place_of` meets its contract.
+use Rattle.checks.proofs.place_of.Goals as goal
+
+pub returns-in-Suppressed : goal.returns-in-Suppressed
+returns-in-Suppressed c = rw (c.in-Suppressed.is)
+
+pub returns-in-NegativeResponse : goal.returns-in-NegativeResponse
+returns-in-NegativeResponse c = rw (c.in-NegativeResponse.is)
+
+pub returns-in-Timeout : goal.returns-in-Timeout
+returns-in-Timeout c = rw (c.in-Timeout.is)
+
+pub returns-in-Disconnected : goal.returns-in-Disconnected
+returns-in-Disconnected c = rw (c.in-Disconnected.is)
+
+pub returns-in-Transport : goal.returns-in-Transport
+returns-in-Transport c = rw (c.in-Transport.is)
+
+pub returns-in-Fault : goal.returns-in-Fault
+returns-in-Fault c = rw (c.in-Fault.is)
+
+pub returns-in-Refused : goal.returns-in-Refused
+returns-in-Refused c = rw (c.in-Refused.is)
+
+pub returns-in-PendingLimit : goal.returns-in-PendingLimit
+returns-in-PendingLimit c = rw (c.in-PendingLimit.is)

@@ -1,0 +1,17 @@
+-- `exchange::exchange` meets its contract.
+use native.Mathlib.Omega.{arith}
+use mathlib.Core.Path.{sym, ◌∙◌}
+use borrow.Author.Tests.{not-true, not-false}
+use Rattle.exchange.specs.Guarded.{guarded}
+use Rattle.exchange.proofs.exchange.Goals as goal
+
+pub returns-then-not-within_limits : goal.returns-then-not-within_limits
+unfolding guarded
+returns-then-not-within_limits c = record { means = rw (sym c.within_limits.ensures ∙ not-true _ c.if-not-within_limits.true-raw); outcome = tt; reply = omega arith }
+
+pub settle-requires : goal.settle-requires
+settle-requires c = sym c.within_limits.ensures ∙ not-false _ c.if-not-within_limits.false-raw
+
+pub returns : goal.returns
+unfolding guarded
+returns c = rw (sym c.within_limits.ensures ∙ not-false _ c.if-not-within_limits.false-raw) c.settle.ensures

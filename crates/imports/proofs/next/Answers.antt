@@ -1,0 +1,11 @@
+-- `imports::next` meets its contract.
+use borrow.Author.Tests.{lt-ltb, le-ltb}
+use Rattle.imports.proofs.next.Goals as goal
+
+pub returns-then-n-lt18446744073709551615 : goal.returns-then-n-lt18446744073709551615
+returns-then-n-lt18446744073709551615 c =
+    rw (lt-ltb c.args.n 0xffffffffffffffff c.if-n-lt18446744073709551615.true)
+
+pub returns-else-n-lt18446744073709551615 : goal.returns-else-n-lt18446744073709551615
+returns-else-n-lt18446744073709551615 c =
+    rw (le-ltb c.args.n 0xffffffffffffffff c.if-n-lt18446744073709551615.false)

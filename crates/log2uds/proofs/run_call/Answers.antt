@@ -1,0 +1,6 @@
+-- `log2uds::run_call` meets its contract.
+use borrow.Author.Rules.{rules}
+use Rattle.log2uds.proofs.run_call.Goals as goal
+
+pub import_log-ends-requires : goal.import_log-ends-requires
+import_log-ends-requires c = (search rules, search rules)

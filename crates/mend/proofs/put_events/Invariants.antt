@@ -1,0 +1,14 @@
+-- `put_events` meets its contract: behind i turns the first i events stand in the buffer.
+use Prim.Native.Nat.{◌*◌, ◌-◌, ◌≤◌}
+use mathlib.Core.Bool.{true}
+use lib.ListN.{take}
+use Rattle.rules.specs.Events.{event_size}
+use Rattle.wire.specs.Buffers.{Copied}
+use Rattle.exchange.specs.Meaning.{form_of}
+use Rattle.mend.proofs.put_events.Given as goal
+
+abbrev pub invariant-loop-i : goal.invariant-loop-i
+invariant-loop-i l = (l.i ≤ l.n) × Copied l.initial.out l.at (take (l.i * event_size (form_of l.form)) l.events) true l.out
+
+abbrev pub decreases-loop-i : goal.decreases-loop-i
+decreases-loop-i l = l.n - l.i

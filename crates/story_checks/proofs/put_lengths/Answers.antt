@@ -1,0 +1,8 @@
+-- `story_checks::put_lengths` meets its contract.
+use Rattle.telling.specs.Checks.{lenient_line}
+use Rattle.text.proofs.Adding.{appends, both}
+use Rattle.story_checks.proofs.put_lengths.Goals as goal
+
+pub returns : goal.returns
+unfolding lenient_line
+returns c = both (appends c.append-a.ensures) c.put_verdict.ensures

@@ -1,0 +1,12 @@
+-- `sound::put_begins` meets its contract.
+use Rattle.telling.specs.Words.{begins}
+use Rattle.text.proofs.Adding.{appends, both}
+use Rattle.tell.proofs.sound.put_begins.Goals as goal
+
+pub returns : goal.returns
+unfolding begins
+returns c =
+    both
+    (both (both (both (both (appends c.append-a.ensures) c.put_shown-b.ensures) c.put_mode-c.ensures) c.put_quiet-d.ensures)
+    (appends c.append_decimal-e.ensures))
+    (appends c.append.ensures)

@@ -1,0 +1,6 @@
+-- `text::put_byte` meets its contract.
+use Rattle.text.proofs.Writing.{one}
+use Rattle.text.proofs.put_byte.Goals as goal
+
+pub returns : goal.returns
+returns c = one _ _ _ c.requires

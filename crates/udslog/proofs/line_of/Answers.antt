@@ -1,0 +1,44 @@
+-- `line_of` meets its contract: there is always room.
+use Prim.Native.Nat.{ℕ, zero, suc, ◌<◌}
+use native.Mathlib.Omega.{arith}
+use mathlib.Core.List.{List, ◌∷◌}
+use mathlib.Core.Path.{◌≡◌}
+use lib.ListN.{get_or, take}
+use Rattle.text.specs.declared.Written.{Written}
+use Rattle.text.specs.declared.Written.TheVariants.{Line, NoRoom}
+use Rattle.log_line.proofs.Longest.{always-room, stands}
+use Rattle.text.specs.Written.{Wrote}
+use Rattle.rules.specs.Logs.{line_of}
+use Rattle.udslog.proofs.line_of.Goals as goal
+
+-- The front of bytes is of bytes.
+bytes_take : (n : ℕ) (l : List ℕ) → ((i : ℕ) → get_or l i 0 < 256) → (i : ℕ) → get_or (take n l) i 0 < 256
+bytes_take zero l h i = omega arith
+bytes_take (suc n) [] h i = h i
+bytes_take (suc n) (x ∷ xs) h zero = h 0
+bytes_take (suc n) (x ∷ xs) h (suc i) = bytes_take n xs (λ k. h (suc k)) i
+
+abbrev start : goal.After-line_of → goal.Start
+start a = a.before.before.before.before.before
+
+-- All that was read.
+abbrev log : goal.After-line_of → List ℕ
+log a = take (start a).args.n (start a).args.input.now
+
+bytes : (a : goal.After-line_of) (i : ℕ) → get_or (log a) i 0 < 256
+bytes a = bytes_take (start a).args.n (start a).args.input.now (λ i. omega (arith, a.shared_slice_known-1.given i))
+
+-- The line of what was handed on is the line of what was read.
+wrote : (a : goal.After-line_of) → Wrote (line_of (log a)) (start a).args.line.now a.line_of.result a.line_of.new.1.0
+wrote a = rw (← a.part.ensures) a.line_of.ensures
+
+never : {w : Written} {n : ℕ} → w ≡ Line n → w ≡ NoRoom → ⊥
+never e k = let z : ◌≡◌ {A = ℕ} 0 1 = cc in omega arith
+
+pub returns-in-Line : goal.returns-in-Line
+returns-in-Line c =
+    stands (log c.before.before.before.before.before) (bytes c.before.before.before.before.before) (start c.before.before.before.before.before).requires (wrote c.before.before.before.before.before) c.in-Line.is
+
+pub returns-in-NoRoom : goal.returns-in-NoRoom
+returns-in-NoRoom c =
+    absurd (never (always-room (log c.before.before.before.before) (bytes c.before.before.before.before) (start c.before.before.before.before).requires (wrote c.before.before.before.before)) c.in-NoRoom.is)
