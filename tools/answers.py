@@ -74,6 +74,27 @@ class Turn:
         self.helpers = {}
         self.wants = set()
 
+    def nested(self, text, env):
+        """A record handed through words that give places: how long it is, and what it is of."""
+        m = re.match(r"\s+", text)
+        at = m.end() if m else 0
+        if not text[at:].startswith("("):
+            return None
+        depth, end = 0, None
+        for i, ch in enumerate(text[at:]):
+            depth += ch == "("
+            depth -= ch == ")"
+            if depth == 0:
+                end = at + i + 1
+                break
+        if end is None:
+            return None
+        words = re.findall(SEG + r"(?:\." + SEG + r")*", text[at:end])
+        heads = [w.split(".")[0] for w in words]
+        if words and all(h in self.returns for h in heads[:-1]) and heads[-1] in env:
+            return end, env[heads[-1]][0]
+        return None
+
     def lets(self, root):
         """The words of the file that an answer wants, as `let`s of its record `root`, and what they unfold."""
         done, unfold = [], []
@@ -112,7 +133,7 @@ class Turn:
             p = self.place.get(place)
             if p is None:
                 return None
-            if norm(p[2][0]) == norm(seg) and p[2][0]:
+            if norm(p[2][0]).lower() == norm(seg).lower() and p[2][0]:
                 return place
             place = norm(p[1]) if p[1] else None
         return None
@@ -185,6 +206,21 @@ class Turn:
                 break
             out.append(text[pos : m.start()])
             pos = m.end()
+            deep = re.match(r"\((" + SEG + r")(?=\s+\()", text[m.start() - 1 :]) if m.start() and text[m.start() - 1] == "(" else None
+            if deep and deep[1] in self.returns and m[3] == deep[1]:
+                got = self.nested(" " + text[m.start() - 1 :], env)
+                if got:
+                    end = m.start() - 1 + got[0] - 1
+                    segs = re.match(r"(?:\." + SEG + r")+", text[end:])
+                    if segs:
+                        new, at = self.resolve(got[1], self.returns[deep[1]], segs[0][1:].split("."))
+                        end += segs.end()
+                    else:
+                        new = got[1]
+                    out[-1] = out[-1][:-1]
+                    out.append(new)
+                    pos = end
+                    continue
             if m[1]:
                 inner = m[2].split(".")[0].strip()
                 if m[1] in self.returns and inner in env:
@@ -233,13 +269,13 @@ class Turn:
                 out.append(new)
             elif not segs and (word in self.helpers or word in self.returns):
                 arg = re.match(r"\s+(\(?)(" + SEG + r")((?:\." + SEG + r")*)", text[pos:])
-                arg2 = re.match(r"\s+\((" + SEG + r")\s+([^()]*)\)", text[pos:])
                 if arg and not arg[1] and arg[2] in env:
                     pos += arg.end()
                     root = env[arg[2]][0]
-                elif arg2 and arg2[1] in self.returns and arg2[2].split(".")[0] in env:
-                    pos += arg2.end()
-                    root = env[arg2[2].split(".")[0]][0]
+                elif self.nested(text[pos:], env):
+                    length, root = self.nested(text[pos:], env)
+                    pos += length
+                    segs = re.match(r"(?:\." + SEG + r")+", text[pos:])
                 else:
                     self.left.append(f"{word} without its place")
                     out.append(m[0])
@@ -311,6 +347,45 @@ class Turn:
             return "goal." + self.new_place[n]
         self.left.append(f"tie.{segs[0]}")
         return "goal." + segs[0]
+
+
+def opened(text):
+    """A file whose `module _ (c : tie.P) where` blocks stand as words of that record."""
+    out, lines, i = [], text.split("\n"), 0
+    while i < len(lines):
+        m = re.match(r"module _ \((" + WORD + r") : (tie\.[^()]*)\) where$", lines[i])
+        if not m:
+            out.append(lines[i])
+            i += 1
+            continue
+        c, place = m[1], m[2]
+        i += 1
+        block = []
+        while i < len(lines) and (not lines[i].strip() or lines[i].startswith("  ")):
+            block.append(lines[i][2:])
+            i += 1
+        body = "\n".join(block).strip("\n")
+        inner = [declared(it) for it in body.split("\n") if declared(it)]
+        made = []
+        for it in body.split("\n"):
+            name = declared(it)
+            if name:
+                it = re.sub(r"^((?:(?:pub|abbrev)\s+)*)(" + re.escape(name) + r")\s*:\s", lambda q: f"{q[1]}{q[2]} : ({c} : {place}) → ", it)
+                head = it.partition("→ ")
+                it = head[0] + head[1] + inside(head[2], inner, c)
+            else:
+                q = re.match(r"(" + WORD + r")((?:\s+" + WORD + r")*\s*=)(.*)", it)
+                if q and q[1] in inner:
+                    it = f"{q[1]} {c}{q[2]}" + inside(q[3], inner, c)
+                elif not it.startswith(("unfolding", "--")):
+                    it = inside(it, inner, c)
+            made.append(it)
+        out += made + [""]
+    return "\n".join(out)
+
+
+def inside(text, names, c):
+    return re.sub(r"(?<![\w.'₀-₉-])(" + "|".join(map(re.escape, sorted(names, key=len, reverse=True))) + r")(?![\w'₀-₉-])(?!\s*=)", lambda m: f"({m[1]} {c})", text)
 
 
 def split_args(text):
@@ -388,6 +463,7 @@ def turn(crate, names, where, fn):
     if key not in names or "tie.spec" not in text:
         print(f"left: {crate} {fn}: not turned")
         return
+    text = opened(text)
     t = Turn(names[key], path)
     uses = uses_of(text)
     parts = chunks(text)

@@ -22,7 +22,7 @@ returns-then-number-ne0 c =
         } in
     -- What was given, seen from behind the question whether the call takes address and size; and the answer.
     let behind = given in
-    let answered : c.Takes-memory.result ≡ takes_memory (row_of behind.ask.call).takes = c.Takes-memory.ensures ∙ ap (λ (r : Row). takes_memory r.takes) c.row_of-row.ensures in
+    let answered : c.takes_memory-takes.result ≡ takes_memory (row_of behind.ask.call).takes = c.takes_memory-takes.ensures ∙ ap (λ (r : Row). takes_memory r.takes) c.row_of-row.ensures in
     rw c.refused.ensures (turned-by-address behind answered c.memory_bytes-a.ensures c.refusal_of-number.ensures c.if-number-ne0.true)
 
 pub returns-then-number-ne0-2 : goal.returns-then-number-ne0-2
@@ -41,7 +41,7 @@ returns-then-number-ne0-2 c =
         } in
     -- What was given, seen from behind the question whether the call takes address and size; and the answer.
     let behind = given in
-    let answered : c.Takes-memory.result ≡ takes_memory (row_of behind.ask.call).takes = c.Takes-memory.ensures ∙ ap (λ (r : Row). takes_memory r.takes) c.row_of-row.ensures in
+    let answered : c.takes_memory-takes.result ≡ takes_memory (row_of behind.ask.call).takes = c.takes_memory-takes.ensures ∙ ap (λ (r : Row). takes_memory r.takes) c.row_of-row.ensures in
     rw c.refused-then-number-ne0-2.ensures
     (turned-by-size behind answered c.memory_bytes-a.ensures c.refusal_of-number.ensures c.if-number-ne0.false c.memory_bytes-s.ensures
     c.refusal_of-number-2.ensures c.if-number-ne0-2.true)
@@ -62,6 +62,6 @@ returns c =
         } in
     -- What was given, seen from behind the question whether the call takes address and size; and the answer.
     let behind = given in
-    let answered : c.Takes-memory.result ≡ takes_memory (row_of behind.ask.call).takes = c.Takes-memory.ensures ∙ ap (λ (r : Row). takes_memory r.takes) c.row_of-row.ensures in
+    let answered : c.takes_memory-takes.result ≡ takes_memory (row_of behind.ask.call).takes = c.takes_memory-takes.ensures ∙ ap (λ (r : Row). takes_memory r.takes) c.row_of-row.ensures in
     handed-on behind answered c.memory_bytes-a.ensures c.refusal_of-number.ensures c.if-number-ne0.false c.memory_bytes-s.ensures
     c.refusal_of-number-2.ensures c.if-number-ne0-2.false c.part-address.ensures c.part-size.ensures c.run.ensures
