@@ -479,6 +479,11 @@ def turn(crate, names, where, fn):
             print(f"left: {crate} {fn}: module _")
             helpers.append((None, c, c))
             continue
+        rec = re.match(r"record (" + SEG + r")", lines[start])
+        if rec:
+            fields = [re.sub(r"^(  )(" + WORD + r")( *:)", r"\1pub \2\3", it) for it in lines[start:]]
+            helpers.append((rec[1], "\n".join(lines[:start] + ["pub " + fields[0]] + fields[1:]), ""))
+            continue
         if name is None:
             print(f"left: {crate} {fn}: what is {lines[start][:60]}")
             helpers.append((None, c, c))
@@ -639,7 +644,7 @@ def turn(crate, names, where, fn):
         else:
             late.insert(0, (name, body))
     if given:
-        body = "\n\n".join([re.sub(r"^((?:--.*\n)*)(?!pub|abbrev pub)(abbrev )?", lambda m: m[1] + (m[2] or "") + "pub ", b) for _, b in early] + given)
+        body = "\n\n".join([re.sub(r"^((?:--.*\n)*)(?!pub|abbrev pub|pub record)(abbrev )?", lambda m: m[1] + (m[2] or "") + "pub ", b) for _, b in early] + given)
         lines = imports(uses, body) + [f"use {module}.Given as goal"]
         with open(os.path.join(folder, "Invariants.antt"), "w", encoding="utf-8") as f:
             f.write(title + "\n".join(lines) + "\n\n" + body + "\n")
