@@ -1,5 +1,4 @@
 -- `lengths::block_length` meets its contract: what is left to read, read on from v, is the value of all.
-use Prim.Native.Nat.{◌-◌}
 use native.Mathlib.Omega.{arith}
 use mathlib.Core.Path.{refl, sym, ◌∙◌}
 use Rattle.lengths.proofs.Values.{one-byte-more, too_much, all_read}

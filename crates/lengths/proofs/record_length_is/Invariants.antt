@@ -1,5 +1,5 @@
 -- `lengths::record_length_is` meets its contract: what is left of the length is compared with the value of the bytes that are left.
-use Prim.Native.Nat.{ℕ, ◌-◌, ◌≤◌}
+use Prim.Native.Nat.{ℕ, ◌≤◌}
 use mathlib.Core.List.{List}
 use mathlib.Core.Path.{◌≡◌}
 use lib.Dec.{eqb}
