@@ -178,6 +178,13 @@ class Turn:
         tail = rest[1:]
         if tail and new.startswith(("if-", "loop-")) and tail[0] in ("left", "taken"):
             tail = [{"left": "false", "taken": "true"}[tail[0]]] + tail[1:]
+        if len(tail) > 1 and tail[0] in ("new", "auto", "last") and p[3] in self.x["params"]:
+            k = 0
+            while k + 1 < len(tail) and tail[1 + k] == "1":
+                k += 1
+            params = self.x["params"][p[3]]
+            if tail[1 + k] == "0" and k < len(params):
+                tail = [tail[0], params[k]] + tail[2 + k :]
         if tail:
             for a, b in p[4]:
                 if tail[0] == a:
@@ -220,9 +227,16 @@ class Turn:
                         new, at = self.resolve(got[1], self.returns[deep[1]], segs[0][1:].split("."))
                         end += segs.end()
                     else:
-                        new = got[1]
+                        new, at = got[1], self.returns[deep[1]]
                     out[-1] = out[-1][:-1]
-                    out.append(new)
+                    let = re.search(r"let\s+(" + WORD + r")\s*=\s*$", "".join(out))
+                    behind = re.match(r"\s+in\b\s*", text[end:])
+                    if let and at and behind:
+                        env[let[1]] = (got[1], 0, at)
+                        out = ["".join(out)[: let.start()]]
+                        pos = end + behind.end()
+                        continue
+                    out.append(got[1] if at else new)
                     pos = end
                     continue
             if m[1]:
@@ -233,8 +247,15 @@ class Turn:
                     if segs:
                         new, at = self.resolve(root, self.returns[m[1]], segs)
                     else:
-                        new = root
-                    out.append(new)
+                        new, at = root, self.returns[m[1]]
+                    let = re.search(r"let\s+(" + WORD + r")\s*=\s*$", "".join(out))
+                    behind = re.match(r"\s+in\b\s*", text[pos:])
+                    if let and at and behind:
+                        env[let[1]] = (root, 0, at)
+                        out = ["".join(out)[: let.start()]]
+                        pos += behind.end()
+                        continue
+                    out.append(root if at else new)
                 elif m[1] in self.helpers and inner in env and m[4] and re.fullmatch(SEG + r"(\." + SEG + r")*", m[2].strip()):
                     self.wants.add(m[1])
                     out.append(m[1] + m[4])
