@@ -326,6 +326,9 @@ class Turn:
                 out.append(m[0])
         text = "".join(out)
         text = self.strictly(text)
+        # what the arms in front of the default rule out, arithmetic finds
+        text = re.sub(r",\s*above \S+ \d+ \S+\.rest\)", ")", text)
+        text = re.sub(r"\(above \S+ \d+ \S+\.rest\)", "(omega arith)", text)
         for x in re.findall(r"let (" + WORD + r") = " + WORD + r"\.args in", text):
             text = re.sub(r"(?<![\w.'-])" + re.escape(x) + r"\.([a-z_]+(?:-[a-z_]+)+)", lambda m: x + "." + m[1].replace("-", "_"), text)
         text = re.sub(r"strict-passes (" + WORD + r")\.(" + WORD + r")\.branch \(λ w\. not-less (?:[^()]|\([^()]*\))*? w\.1\.left\)\s+\(λ w\. w\.left\)",
@@ -464,6 +467,8 @@ def uses_of(text):
 
 def used(name, words, text):
     bare = name.split(" as ")[-1].strip()
+    if bare == "[]":
+        return "[]" in text
     if "◌" in bare:
         return all(part in text for part in bare.split("◌") if part)
     return bare in words
@@ -566,7 +571,7 @@ def turn(crate, names, where, fn):
             if m[1] and m[1] != params[0]:
                 sort = re.sub(r"(?<![\w.'₀-₉-])" + re.escape(m[1]) + r"(?=[.\s)])", params[0], sort)
             note = "".join("    " + it + "\n" for it in notes if it.strip())
-            t.helpers[name] = (params, None if sig.startswith("abbrev") else sort, c[2], unfolding.split()[1:], norm(m[2]), note)
+            t.helpers[name] = (params, sort, c[2], unfolding.split()[1:], norm(m[2]), note)
     for name, notes, lines in decls:
         sig, rest = lines[0], "\n".join(lines[1:])
         while "=" not in rest.split("\n")[0] and not re.match(re.escape(name) + r"(\s|$)", rest) and not rest.startswith("unfolding"):
