@@ -11,12 +11,12 @@ import os
 import re
 import sys
 
-SEG = r"[^\s(){}.,;@\"«»\[\]]+"
+SEG = r"[^\s(){}.,;@\"\[\]]+"
 WORD = r"[^\s(){}.,;@\"«»\[\]=]+"
 
 
 def norm(name):
-    return name.replace("_", "-")
+    return name.replace("_", "-").strip("«»")
 
 
 def chunks(text):
@@ -156,6 +156,8 @@ class Turn:
         if s == "pre":
             rest[0] = s = "requires"
         if s in ("args", "requires", "ranges", "lifetimes", "well_formed"):
+            if s == "args" and len(rest) > 1:
+                rest[1] = rest[1].replace("-", "_")
             return var + "." + ".".join(rest), None
         found = self.step(at, s) or self.step(place, s)
         if found is None:
@@ -174,6 +176,15 @@ class Turn:
         if arm:
             return ".".join([var, arm[0], arm[1], *rest[1 + len(arm[2]) :]]), None
         tail = rest[1:]
+        if tail and new.startswith(("if-", "loop-")) and tail[0] in ("left", "taken"):
+            tail = [{"left": "false", "taken": "true"}[tail[0]]] + tail[1:]
+        if len(tail) > 1 and tail[0] in ("new", "auto", "last") and p[3] in self.x["params"]:
+            k = 0
+            while k + 1 < len(tail) and tail[1 + k] == "1":
+                k += 1
+            params = self.x["params"][p[3]]
+            if tail[1 + k] == "0" and k < len(params):
+                tail = [tail[0], params[k]] + tail[2 + k :]
         if tail:
             for a, b in p[4]:
                 if tail[0] == a:
@@ -216,9 +227,16 @@ class Turn:
                         new, at = self.resolve(got[1], self.returns[deep[1]], segs[0][1:].split("."))
                         end += segs.end()
                     else:
-                        new = got[1]
+                        new, at = got[1], self.returns[deep[1]]
                     out[-1] = out[-1][:-1]
-                    out.append(new)
+                    let = re.search(r"let\s+(" + WORD + r")\s*=\s*$", "".join(out))
+                    behind = re.match(r"\s+in\b\s*", text[end:])
+                    if let and at and behind:
+                        env[let[1]] = (got[1], 0, at)
+                        out = ["".join(out)[: let.start()]]
+                        pos = end + behind.end()
+                        continue
+                    out.append(got[1] if at else new)
                     pos = end
                     continue
             if m[1]:
@@ -229,8 +247,15 @@ class Turn:
                     if segs:
                         new, at = self.resolve(root, self.returns[m[1]], segs)
                     else:
-                        new = root
-                    out.append(new)
+                        new, at = root, self.returns[m[1]]
+                    let = re.search(r"let\s+(" + WORD + r")\s*=\s*$", "".join(out))
+                    behind = re.match(r"\s+in\b\s*", text[pos:])
+                    if let and at and behind:
+                        env[let[1]] = (root, 0, at)
+                        out = ["".join(out)[: let.start()]]
+                        pos += behind.end()
+                        continue
+                    out.append(root if at else new)
                 elif m[1] in self.helpers and inner in env and m[4] and re.fullmatch(SEG + r"(\." + SEG + r")*", m[2].strip()):
                     self.wants.add(m[1])
                     out.append(m[1] + m[4])
@@ -301,6 +326,15 @@ class Turn:
                 out.append(m[0])
         text = "".join(out)
         text = self.strictly(text)
+        # what the arms in front of the default rule out, arithmetic finds
+        text = re.sub(r",\s*above \S+ \d+ \S+\.rest\)", ")", text)
+        text = re.sub(r"\(above \S+ \d+ \S+\.rest\)", "(omega arith)", text)
+        for x in re.findall(r"let (" + WORD + r") = " + WORD + r"\.args in", text):
+            text = re.sub(r"(?<![\w.'-])" + re.escape(x) + r"\.([a-z_]+(?:-[a-z_]+)+)", lambda m: x + "." + m[1].replace("-", "_"), text)
+        text = re.sub(r"strict-passes (" + WORD + r")\.(" + WORD + r")\.branch \(λ w\. not-less (?:[^()]|\([^()]*\))*? w\.1\.left\)\s+\(λ w\. w\.left\)",
+                      r"strict-passes \1.\2.either (λ w. le-leb _ _ w.1) (λ w. w)", text)
+        text = re.sub(r"strict-passes (" + WORD + r")\.(" + WORD + r")\.branch \(λ w\. not-zero (\S+) w\.1\.left\)\s+\(λ w\. w\.left\)",
+                      r"strict-passes \1.\2.either (λ w. lt-ltb 0 \3 (omega (arith, w.1))) (λ w. w)", text)
         text = re.sub(r"(?<=[\s(])\((" + WORD + r")\)(?!\.)", lambda m: m[1] if m[1] in self.helpers else m[0], text)
         return re.sub(r"(goal\.\S+)((?: (?:invariant|decreases)\S*)+)", r"\1", text)
 
@@ -311,13 +345,13 @@ class Turn:
             if at is None:
                 return None
             names, test = [], None
-            for p in reversed(self.x["places"][:at]):
-                if p[0].startswith("Else") and test is None and "strict" not in p[2][1].replace("-not", ""):
-                    test = p[2][1]
-                elif p[0].startswith("After") and p[3] and test and len(names) < count:
-                    names.insert(0, p[2][1])
-                elif p[0].startswith("Then") and len(names) >= count and test:
-                    break
+            way = next((p for p in reversed(self.x["places"][:at]) if p[0].startswith("Else") and not re.match(r"if-(not-)?strict(-\d+)?$", p[2][1])), None)
+            while way is not None and not way[0].startswith("Then"):
+                if way[0].startswith("Else") and test is None:
+                    test = way[2][1]
+                elif way[0].startswith("After") and way[3]:
+                    names.insert(0, way[2][1])
+                way = self.place.get(norm(way[1])) if way[1] else None
             return names, test
         def turn(m):
             root, step, rws, last = m[1], m[2], m[3], m[4]
@@ -327,10 +361,11 @@ class Turn:
                 self.left.append(f"{step}: no ways in")
                 return m[0]
             names, test = got
+            names = names[-n:] if n else []
             k = re.sub(r"^(else|if|then)-", "", step)
             x = re.sub(r"^if-", "", test)
             tails = re.findall(r"← w\.\d+\.ensures((?:\.\w+)*)", rws or "")
-            proof = ", ".join([f"← w.{c}.ensures{t}" for c, t in zip(names, tails)] + [f"eq-eqb _ _ w.{test}.false"])
+            proof = ", ".join([f"← w.{c}.ensures{t}" for c, t in zip(names, tails)] + [f"w.{test}.false" if test.startswith("if-not-") else f"eq-eqb _ _ w.{test}.false"])
             return (f"elim {root}.{step}.branch [ {step}-via-then-{k}+else-{x} w ↦ rw ({proof}) (right-passes _)"
                     f" | {step}-via-else-{k} w ↦ lenient-passes _ _ w.if-{k}.false ]")
         text = re.sub(r"strict-passes (" + WORD + r")\.(" + WORD + r")\.branch \(λ w\. not-false _ w\.1\.left\)\s+\(λ w\. w\.left\)",
@@ -432,6 +467,8 @@ def uses_of(text):
 
 def used(name, words, text):
     bare = name.split(" as ")[-1].strip()
+    if bare == "[]":
+        return "[]" in text
     if "◌" in bare:
         return all(part in text for part in bare.split("◌") if part)
     return bare in words
@@ -534,7 +571,7 @@ def turn(crate, names, where, fn):
             if m[1] and m[1] != params[0]:
                 sort = re.sub(r"(?<![\w.'₀-₉-])" + re.escape(m[1]) + r"(?=[.\s)])", params[0], sort)
             note = "".join("    " + it + "\n" for it in notes if it.strip())
-            t.helpers[name] = (params, None if sig.startswith("abbrev") else sort, c[2], unfolding.split()[1:], norm(m[2]), note)
+            t.helpers[name] = (params, sort, c[2], unfolding.split()[1:], norm(m[2]), note)
     for name, notes, lines in decls:
         sig, rest = lines[0], "\n".join(lines[1:])
         while "=" not in rest.split("\n")[0] and not re.match(re.escape(name) + r"(\s|$)", rest) and not rest.startswith("unfolding"):
@@ -663,6 +700,12 @@ def turn(crate, names, where, fn):
             lines.append(f"use {module}.Goals.{{{', '.join(ways)}}}")
         if "eq-eqb" in names_of(body) and not any("eq-eqb" in it for it in lines):
             lines.insert(0, "use borrow.Author.Tests.{eq-eqb}")
+        if "lt-ltb" in names_of(body) and not any("lt-ltb" in it for it in lines):
+            lines.insert(0, "use borrow.Author.Tests.{lt-ltb}")
+        if "omega" in names_of(body) and not any("arith" in it for it in lines):
+            lines.insert(0, "use native.Mathlib.Omega.{arith}")
+        if "le-leb" in names_of(body) and not any("le-leb" in it for it in lines):
+            lines.insert(0, "use borrow.Author.Tests.{le-leb}")
         if ways and "right-passes" in body:
             lines.insert(0, "use Rattle.exchange.proofs.Verdicts.{right-passes, lenient-passes}")
         with open(os.path.join(folder, "Answers.antt"), "w", encoding="utf-8") as f:

@@ -18,7 +18,7 @@ returns-in-Line c =
     let x = c.args in
     let told = c.in-Line.is in (
       put-behind x.out.now x.at c.requires x.log.now (bytes c.before.before.before.before.before) c.line_of.ensures told,
-      ends-inside x.out.now x.at c.requires x.log.now (bytes c.before.before.before.before.before) c.line_of.ensures c.line_of.auto.1.0 told,
+      ends-inside x.out.now x.at c.requires x.log.now (bytes c.before.before.before.before.before) c.line_of.ensures c.line_of.auto.line told,
     )
 
 pub returns-in-NoRoom : goal.returns-in-NoRoom

@@ -47,4 +47,4 @@ returns c =
     all-put x.out.now header arguments rest x.new.arguments_at x.new.events_at (behind-header x.new old l c.requires.0)
     (behind-arguments x.new old l c.requires.0 c.requires.1) (rw (not-false c.put_run.result c.if-not-put_run.false-raw) at c.put_run.ensures)
     (rw (not-false c.copy_into.result c.if-not-copy_into.false-raw, c.arguments_in.ensures) at c.copy_into.ensures)
-    (subst (λ (h : Header). Copied c.copy_into.new.0 0 (put_header h) c.put_header.result c.put_header.new.0) c.requires.0 c.put_header.ensures)
+    (subst (λ (h : Header). Copied c.copy_into.new.buffer 0 (put_header h) c.put_header.result c.put_header.new.buffer) c.requires.0 c.put_header.ensures)

@@ -14,7 +14,7 @@ use Rattle.mend.proofs.put_run.Goals as goal
 
 -- What is left of the reply area went behind the events, or had no room there.
 replies : (c : goal.After-copy_into) (b : Bool) → c.copy_into.result ≡ b → let x = c.args in
-    Copied x.out.now (x.new.events_at + length (kept_bytes (said x.old) x.log.now)) (left_in (said x.old) x.log.now) b c.copy_into.new.0
+    Copied x.out.now (x.new.events_at + length (kept_bytes (said x.old) x.log.now)) (left_in (said x.old) x.log.now) b c.copy_into.new.buffer
 replies c b told =
     let x = c.args in
     rw (told, c.left_in.ensures, behind-events x.new (said x.old) x.log.now c.requires) at c.copy_into.ensures

@@ -29,9 +29,9 @@ returns-in_default-block_length c =
     let first_byte : c.wide-at.result ≡ u16_at store 28 = c.wide-at.ensures.0 ∙ c.u16_at.ensures in
     let memory : (length c.part-held.result.now ≡ length (store_of store).memory) × (length (store_of store).memory ≤ 65535) = few-held store c.part-held.ensures first_byte refl c.wide.ensures c.u16_at-2.ensures in
     let apart : c.distance_to.result ≡ offset_of address (store_of store).first = c.distance_to.ensures ∙ ap (λ (f : ℕ). offset_of address f) c.first_address.ensures in
-    let near : {n : ℕ} → c.distance_to.result ≡ Near n → ((store_of store).first ≤ address) × (n ≡ address - (store_of store).first) = λ e. near-told address (store_of store).first (sym apart ∙ e) in
+    let near : (n : ℕ) → c.distance_to.result ≡ Near n → ((store_of store).first ≤ address) × (n ≡ address - (store_of store).first) = λ n e. near-told address (store_of store).first (sym apart ∙ e) in
     let much = high size (sym c.block_length.ensures ∙ c.in_default-block_length.is) in
-    outside store address size (near c.in-Near.is).0 (omega (arith, memory.1, much))
+    outside store address size (near _ c.in-Near.is).0 (omega (arith, memory.1, much))
 
 pub returns-then-count-lt1 : goal.returns-then-count-lt1
 returns-then-count-lt1 c =
@@ -49,8 +49,8 @@ returns-then-from-held c =
     let first_byte : c.wide-at.result ≡ u16_at store 28 = c.wide-at.ensures.0 ∙ c.u16_at.ensures in
     let memory : (length c.part-held.result.now ≡ length (store_of store).memory) × (length (store_of store).memory ≤ 65535) = few-held store c.part-held.ensures first_byte refl c.wide.ensures c.u16_at-2.ensures in
     let apart : c.distance_to.result ≡ offset_of address (store_of store).first = c.distance_to.ensures ∙ ap (λ (f : ℕ). offset_of address f) c.first_address.ensures in
-    let near : {n : ℕ} → c.distance_to.result ≡ Near n → ((store_of store).first ≤ address) × (n ≡ address - (store_of store).first) = λ e. near-told address (store_of store).first (sym apart ∙ e) in
-    let n = near c.in-Near.is in
+    let near : (n : ℕ) → c.distance_to.result ≡ Near n → ((store_of store).first ≤ address) × (n ≡ address - (store_of store).first) = λ n e. near-told address (store_of store).first (sym apart ∙ e) in
+    let n = near _ c.in-Near.is in
     outside store address size n.0 (omega (arith, memory.0, n.1, c.if-from-held.true))
 
 pub returns-then-count-held : goal.returns-then-count-held
@@ -61,8 +61,8 @@ returns-then-count-held c =
     let first_byte : c.wide-at.result ≡ u16_at store 28 = c.wide-at.ensures.0 ∙ c.u16_at.ensures in
     let memory : (length c.part-held.result.now ≡ length (store_of store).memory) × (length (store_of store).memory ≤ 65535) = few-held store c.part-held.ensures first_byte refl c.wide.ensures c.u16_at-2.ensures in
     let apart : c.distance_to.result ≡ offset_of address (store_of store).first = c.distance_to.ensures ∙ ap (λ (f : ℕ). offset_of address f) c.first_address.ensures in
-    let near : {n : ℕ} → c.distance_to.result ≡ Near n → ((store_of store).first ≤ address) × (n ≡ address - (store_of store).first) = λ e. near-told address (store_of store).first (sym apart ∙ e) in
-    let n = near c.in-Near.is in
+    let near : (n : ℕ) → c.distance_to.result ≡ Near n → ((store_of store).first ≤ address) × (n ≡ address - (store_of store).first) = λ n e. near-told address (store_of store).first (sym apart ∙ e) in
+    let n = near _ c.in-Near.is in
     let many = told size _ (sym c.block_length.ensures ∙ c.in-Value.is) in
     outside store address size n.0 (omega (arith, memory.0, n.1, many, c.if-from-held.false, c.if-count-held.true))
 
@@ -74,8 +74,8 @@ returns c =
     let first_byte : c.wide-at.result ≡ u16_at store 28 = c.wide-at.ensures.0 ∙ c.u16_at.ensures in
     let memory : (length c.part-held.result.now ≡ length (store_of store).memory) × (length (store_of store).memory ≤ 65535) = few-held store c.part-held.ensures first_byte refl c.wide.ensures c.u16_at-2.ensures in
     let apart : c.distance_to.result ≡ offset_of address (store_of store).first = c.distance_to.ensures ∙ ap (λ (f : ℕ). offset_of address f) c.first_address.ensures in
-    let near : {n : ℕ} → c.distance_to.result ≡ Near n → ((store_of store).first ≤ address) × (n ≡ address - (store_of store).first) = λ e. near-told address (store_of store).first (sym apart ∙ e) in
-    let n = near c.in-Near.is in
+    let near : (n : ℕ) → c.distance_to.result ≡ Near n → ((store_of store).first ≤ address) × (n ≡ address - (store_of store).first) = λ n e. near-told address (store_of store).first (sym apart ∙ e) in
+    let n = near _ c.in-Near.is in
     let many = told size _ (sym c.block_length.ensures ∙ c.in-Value.is) in
     within store address size n.0 first_byte n.1 (sym many) c.if-count-lt1.false
     (omega (arith, memory.0, c.if-from-held.false, c.if-count-held.false))
