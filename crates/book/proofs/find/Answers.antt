@@ -95,7 +95,7 @@ loop-i-preserved c =
     let rest = others b n l.i l.at more log is in
     let Goal : ℕ → Type 0 = λ (k : ℕ). (nth x.call k rest ≡ bookkeeping.find b x.call x.k) × (stands_at x.call k
     (l.at + length log) rest ≡ stands_at x.call x.k (start (u16_at b 4)) (logs_in b)) in
-    let on : Goal c.if-call_in-call.left =
+    let on : Goal c.if-call_in-call.false =
     ⊎_elim
     (λ w. subst⁻¹ Goal w.2 (counted-off b n l.i l.at more log is x.call l.left l.invariant.2 l.invariant.3 (sym
     c.call_in.ensures ∙ w.0.taken) (omega (arith, w.1.left))))
