@@ -71,6 +71,40 @@ class Turn:
         self.changed = {norm(a): c for ((a, _), _), c in zip(x["loops"], x["changed"])}
         self.returns = {}
         self.locals = {}
+        self.helpers = {}
+        self.wants = set()
+
+    def lets(self, root):
+        """The words of the file that an answer wants, as `let`s of its record `root`, and what they unfold."""
+        done, unfold = [], []
+        todo = set(self.wants)
+        while todo:
+            name = todo.pop()
+            if name in done:
+                continue
+            done.append(name)
+            self.wants = set()
+            self.made(name, root)
+            todo |= self.wants - set(done)
+        out = ""
+        for name in [n for n in self.helpers if n in done]:
+            sort, body, more, note = self.made(name, root)
+            unfold += more
+            out += note + (f"    let {name} : {sort} = {body} in\n" if sort else f"    let {name} = {body} in\n")
+        self.wants = set()
+        return out, unfold
+
+    def made(self, name, root):
+        params, sort, body, more, place, note = self.helpers[name]
+        env = {params[0]: place}
+        def own(text):
+            text = self.body(text, env)
+            return re.sub(r"(?<![\w.'₀-₉-])" + re.escape(params[0]) + r"(?=[.\s)])", root, text) if params[0] != root else text
+        b = own(body.strip())
+        if len(params) > 1:
+            b = f"λ {' '.join(params[1:])}. {b}"
+        b = b.replace("\n", "\n    ")
+        return (" ".join(own(sort.strip()).split()) if sort else None), b, more, note
 
     def step(self, place, seg):
         """The place at or above `place` whose step is spelled `seg`."""
@@ -98,6 +132,8 @@ class Turn:
         if not rest:
             return var + ".before" * i, at
         s = rest[0]
+        if s == "pre":
+            rest[0] = s = "requires"
         if s in ("args", "requires", "ranges", "lifetimes", "well_formed"):
             return var + "." + ".".join(rest), None
         found = self.step(at, s) or self.step(place, s)
@@ -150,12 +186,18 @@ class Turn:
             out.append(text[pos : m.start()])
             pos = m.end()
             if m[1]:
-                if m[1] in self.returns and m[4]:
-                    w = m[2].strip()
-                    new, at = self.resolve("X", self.returns[m[1]], m[4][1:].split("."))
-                    if w in env:
-                        w = env[w][0] + ".before" * env[w][1]
-                    out.append(f"({m[1]} {w})" + new[1:])
+                inner = m[2].split(".")[0].strip()
+                if m[1] in self.returns and inner in env:
+                    root = env[inner][0]
+                    segs = m[4][1:].split(".") if m[4] else []
+                    if segs:
+                        new, at = self.resolve(root, self.returns[m[1]], segs)
+                    else:
+                        new = root
+                    out.append(new)
+                elif m[1] in self.helpers and inner in env and m[4] and re.fullmatch(SEG + r"(\." + SEG + r")*", m[2].strip()):
+                    self.wants.add(m[1])
+                    out.append(m[1] + m[4])
                 else:
                     out.append("(")
                     pos = m.start() + 1
@@ -163,6 +205,15 @@ class Turn:
             word, segs = m[3], m[4][1:].split(".") if m[4] else []
             if word in env:
                 root, up, place = env[word]
+                if isinstance(up, list):
+                    segs, up = up + segs, 0
+                alias = re.match(r"\s+in\b\s*", text[pos:]) if segs and segs[-1] == "given" else None
+                let = re.search(r"let\s+(" + WORD + r")\s*=\s*$", "".join(out)) if alias else None
+                if let:
+                    env[let[1]] = (root, segs, place)
+                    out = ["".join(out)[: let.start()]]
+                    pos += alias.end()
+                    continue
                 if not segs:
                     new, at, more = root + ".before" * up, place, up
                 else:
@@ -180,6 +231,32 @@ class Turn:
                 if let:
                     env.pop(let[1], None)
                 out.append(new)
+            elif not segs and (word in self.helpers or word in self.returns):
+                arg = re.match(r"\s+(\(?)(" + SEG + r")((?:\." + SEG + r")*)", text[pos:])
+                arg2 = re.match(r"\s+\((" + SEG + r")\s+([^()]*)\)", text[pos:])
+                if arg and not arg[1] and arg[2] in env:
+                    pos += arg.end()
+                    root = env[arg[2]][0]
+                elif arg2 and arg2[1] in self.returns and arg2[2].split(".")[0] in env:
+                    pos += arg2.end()
+                    root = env[arg2[2].split(".")[0]][0]
+                else:
+                    self.left.append(f"{word} without its place")
+                    out.append(m[0])
+                    continue
+                if word in self.returns:
+                    at = self.returns[word]
+                    let = re.search(r"let\s+(" + WORD + r")\s*=\s*$", "".join(out))
+                    behind = re.match(r"\s+in\b\s*", text[pos:])
+                    if let and behind:
+                        env[let[1]] = (root, 0, at)
+                        out = ["".join(out)[: let.start()]]
+                        pos += behind.end()
+                        continue
+                    out.append(root)
+                else:
+                    self.wants.add(word)
+                    out.append(word)
             elif word == "tie" and segs:
                 out.append(self.type(segs))
             elif not segs and word in self.locals:
@@ -187,7 +264,44 @@ class Turn:
             else:
                 out.append(m[0])
         text = "".join(out)
+        text = self.strictly(text)
+        text = re.sub(r"(?<=[\s(])\((" + WORD + r")\)(?!\.)", lambda m: m[1] if m[1] in self.helpers else m[0], text)
         return re.sub(r"(goal\.\S+)((?: (?:invariant|decreases)\S*)+)", r"\1", text)
+
+    def strictly(self, text):
+        """Where `strict-passes` split what a join came from by the two ways in."""
+        def calls(count, step):
+            at = next((i for i, p in enumerate(self.x["places"]) if p[2][1] == step and p[0].startswith("Joined")), None)
+            if at is None:
+                return None
+            names, test = [], None
+            for p in reversed(self.x["places"][:at]):
+                if p[0].startswith("Else") and test is None and "strict" not in p[2][1].replace("-not", ""):
+                    test = p[2][1]
+                elif p[0].startswith("After") and p[3] and test and len(names) < count:
+                    names.insert(0, p[2][1])
+                elif p[0].startswith("Then") and len(names) >= count and test:
+                    break
+            return names, test
+        def turn(m):
+            root, step, rws, last = m[1], m[2], m[3], m[4]
+            n = len(re.findall(r"ensures", rws or ""))
+            got = calls(n, step)
+            if not got or got[1] is None:
+                self.left.append(f"{step}: no ways in")
+                return m[0]
+            names, test = got
+            k = re.sub(r"^(else|if|then)-", "", step)
+            x = re.sub(r"^if-", "", test)
+            tails = re.findall(r"← w\.\d+\.ensures((?:\.\w+)*)", rws or "")
+            proof = ", ".join([f"← w.{c}.ensures{t}" for c, t in zip(names, tails)] + [f"eq-eqb _ _ w.{test}.false"])
+            return (f"elim {root}.{step}.branch [ {step}-via-then-{k}+else-{x} w ↦ rw ({proof}) (right-passes _)"
+                    f" | {step}-via-else-{k} w ↦ lenient-passes _ _ w.if-{k}.false ]")
+        text = re.sub(r"strict-passes (" + WORD + r")\.(" + WORD + r")\.branch \(λ w\. not-false _ w\.1\.left\)\s+\(λ w\. w\.left\)",
+                      r"strict-passes \1.\2.either (λ w. eq-eqb _ _ w.1) (λ w. w)", text)
+        text = re.sub(r"strict-passes (" + WORD + r")\.(" + WORD + r")\.branch \(λ w\. ap not w\.1\.left\)\s+\(λ w\. w\.left\)",
+                      r"strict-passes \1.\2.either (λ w. ap not w.1) (λ w. w)", text)
+        return re.sub(r"strict-passes (" + WORD + r")\.(" + WORD + r")\.branch \(λ w\. (rw \([^()]*\)) \((not-false _) w\.\d+\.left\)\)\s+\(λ w\. w\.left\)", turn, text)
 
     def type(self, segs):
         n = norm(segs[0])
@@ -220,6 +334,18 @@ def split_args(text):
 
 def names_of(x):
     return set(re.findall(SEG, x))
+
+
+def parts_of(name, lines):
+    """The signature, the clauses and what is unfolded."""
+    sig, rest = lines[0], "\n".join(lines[1:])
+    while rest and not re.match(re.escape(name) + r"(\s|$)", rest) and not rest.startswith("unfolding"):
+        first, _, rest = rest.partition("\n")
+        sig += "\n" + first
+    unfolding = ""
+    if rest.startswith("unfolding"):
+        unfolding, _, rest = rest.partition("\n")
+    return sig, rest, unfolding
 
 
 def uses_of(text):
@@ -316,6 +442,19 @@ def turn(crate, names, where, fn):
             if m and not re.search(r"tie\.(invariant|decreases)", lines[0]):
                 t.returns[name] = norm(m[1])
     for name, notes, lines in decls:
+        sig, rest, unfolding = parts_of(name, lines)
+        if "tie.Need" in sig or "tie.spec" in rest or "tie.close" in rest or re.search(r":\s*tie\.(invariant|decreases)", sig) or name in t.returns:
+            continue
+        m = re.match(r"(?:(?:pub|abbrev|unfoldable)\s+)*" + re.escape(name) + r"\s*:\s*(?:\((" + SEG + r")\s*:\s*)?tie\.(" + SEG + r")((?:\s+(?:invariant|decreases)[^\s)→]*)*)\)?\s*→\s*(.*)$", sig, re.S)
+        c = re.match(re.escape(name) + r"((?:\s+" + WORD + r")+)\s*=(.*)", rest, re.S)
+        if m and c and not re.search(r"^" + re.escape(name) + r"\s", c[2], re.M):
+            params = c[1].split()
+            sort = m[4]
+            if m[1] and m[1] != params[0]:
+                sort = re.sub(r"(?<![\w.'₀-₉-])" + re.escape(m[1]) + r"(?=[.\s)])", params[0], sort)
+            note = "".join("    " + it + "\n" for it in notes if it.strip())
+            t.helpers[name] = (params, None if sig.startswith("abbrev") else sort, c[2], unfolding.split()[1:], norm(m[2]), note)
+    for name, notes, lines in decls:
         sig, rest = lines[0], "\n".join(lines[1:])
         while "=" not in rest.split("\n")[0] and not re.match(re.escape(name) + r"(\s|$)", rest) and not rest.startswith("unfolding"):
             first, _, rest = rest.partition("\n")
@@ -379,10 +518,18 @@ def turn(crate, names, where, fn):
                 t.left.append(f"{name}: {len(params)} arguments")
             new = t.need[old]
             place = t.at[old]
+            t.wants = set()
             out = t.body(m2, {c: place})
+            lets, more = t.lets(c)
+            if lets:
+                out = "\n" + lets + "    " + out.strip().replace("\n    ", "\n    ")
+            if more:
+                unfolding = "unfolding " + " ".join(dict.fromkeys(unfolding.split()[1:] + more))
             answers.append((new, f"{note}pub {new} : goal.{new}\n{unfolding + chr(10) if unfolding else ''}{new} {c} ={out}"))
             continue
         if "tie.close" in rest or "tie.spec" in rest:
+            continue
+        if name in t.helpers or name in t.returns:
             continue
         # a lemma or a word of the file
         env = {}
@@ -430,6 +577,13 @@ def turn(crate, names, where, fn):
         if shared:
             lines.append(f"use {module}.Invariants.{{{', '.join(shared)}}}")
         lines.append(f"use {module}.Goals as goal")
+        ways = sorted(set(re.findall(r"[^\s\[]+-via-[^\s]+", body)))
+        if ways:
+            lines.append(f"use {module}.Goals.{{{', '.join(ways)}}}")
+        if "eq-eqb" in names_of(body) and not any("eq-eqb" in it for it in lines):
+            lines.insert(0, "use borrow.Author.Tests.{eq-eqb}")
+        if ways and "right-passes" in body:
+            lines.insert(0, "use Rattle.exchange.proofs.Verdicts.{right-passes, lenient-passes}")
         with open(os.path.join(folder, "Answers.antt"), "w", encoding="utf-8") as f:
             f.write(title + "\n".join(lines) + "\n\n" + body + "\n")
     elif late:

@@ -13,12 +13,6 @@ use Prim.Native.Nat.{◌+◌, ◌≤◌, ◌<◌}
 use borrow.Author.Tests.{le-leb, lt-leb}
 use Rattle.book_text.proofs.put_added.Goals as goal
 
-short-call : (s : goal.Start) → length (decimal s.args.entry.call) ≤ 5
-short-call s = five-digits s.args.entry.call (omega arith)
-
-short-number : (s : goal.Start) → length (decimal s.args.entry.number) ≤ 20
-short-number s = twenty-digits s.args.entry.number (omega arith)
-
 pub returns-then-text-lt-SHORT : goal.returns-then-text-lt-SHORT
 returns-then-text-lt-SHORT c = rw (lt-leb 200 (length c.args.text.now) c.if-text-lt-SHORT.true) (refl, refl)
 
@@ -29,10 +23,12 @@ returns-then-summary-gt-COUNTERS c =
 
 pub put_byte-c-requires : goal.put_byte-c-requires
 put_byte-c-requires c =
+    let short-call : length (decimal c.args.entry.call) ≤ 5 = five-digits c.args.entry.call (omega arith) in
+    let short-number : length (decimal c.args.entry.number) ≤ 20 = twenty-digits c.args.entry.number (omega arith) in
     let x = c.args in
     let e = x.entry in
-    let d = short-call c.before.before.before.before.before.before.before.before.before.before.before.before.before.before.before.before in
-    let f = short-number c.before.before.before.before.before.before.before.before.before.before.before.before.before.before.before.before in
+    let d = short-call in
+    let f = short-number in
     let p = was-put (counted (ascii "added") e.call) x.text.now 0 (omega (arith, c.if-text-lt-SHORT.false, d)) c.put_counted-a.ensures in
     let q = was-put (counted [] e.number) c.put_counted-a.new.0 c.put_counted-a.result (omega
     (arith, c.if-text-lt-SHORT.false, c.text-1.given, p.next, d, f)) c.put_counted-b.ensures in
@@ -40,10 +36,12 @@ put_byte-c-requires c =
 
 pub put_counter-requires : goal.put_counter-requires
 put_counter-requires c =
+    let short-call : length (decimal c.args.entry.call) ≤ 5 = five-digits c.args.entry.call (omega arith) in
+    let short-number : length (decimal c.args.entry.number) ≤ 20 = twenty-digits c.args.entry.number (omega arith) in
     let x = c.args in
     let e = x.entry in
-    let d = short-call c.before.before.before.before.before.before.before.before.before.before.before.before.before.before.before.before.before.before.before.before.before in
-    let f = short-number c.before.before.before.before.before.before.before.before.before.before.before.before.before.before.before.before.before.before.before.before.before in
+    let d = short-call in
+    let f = short-number in
     let p = was-put (counted (ascii "added") e.call) x.text.now 0 (omega (arith, c.if-text-lt-SHORT.false, d)) c.put_counted-a.ensures in
     let q = was-put (counted [] e.number) c.put_counted-a.new.0 c.put_counted-a.result (omega
     (arith, c.if-text-lt-SHORT.false, c.text-1.given, p.next, d, f)) c.put_counted-b.ensures in
@@ -70,10 +68,12 @@ put_counter-requires c =
 
 pub returns : goal.returns
 returns c =
+    let short-call : length (decimal c.args.entry.call) ≤ 5 = five-digits c.args.entry.call (omega arith) in
+    let short-number : length (decimal c.args.entry.number) ≤ 20 = twenty-digits c.args.entry.number (omega arith) in
     let x = c.args in
     let e = x.entry in
-    let d = short-call c.before.before.before.before.before.before.before.before.before.before.before.before.before.before.before.before.before.before.before.before.before.before.before.before in
-    let f = short-number c.before.before.before.before.before.before.before.before.before.before.before.before.before.before.before.before.before.before.before.before.before.before.before.before in
+    let d = short-call in
+    let f = short-number in
     let c1 = counted (ascii "added") e.call in
     let c2 = counted [] e.number in
     let p = was-put c1 x.text.now 0 (omega (arith, c.if-text-lt-SHORT.false, d)) c.put_counted-a.ensures in

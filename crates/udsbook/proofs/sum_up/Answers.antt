@@ -15,10 +15,9 @@ returns-in-Summary c =
 
 pub returns-in-Refused : goal.returns-in-Refused
 returns-in-Refused c =
-    let number = c.number-1.given in
     let x = c.args in
-    no-sum (take x.n x.book.now) x.summary.now c.summarize.new.1.0 c.requires.1 number.0.0 c.put_refusal.result x.said.now
-    x.book.now c.put_refusal.new.0 c.requires.2 (rw (number.1, c.part.ensures) at c.summarize.ensures)
+    no-sum (take x.n x.book.now) x.summary.now c.summarize.new.1.0 c.requires.1 c.in-Refused.number c.put_refusal.result x.said.now
+    x.book.now c.put_refusal.new.0 c.requires.2 (rw (c.in-Refused.is, c.part.ensures) at c.summarize.ensures)
     c.put_refusal.ensures
 
 pub returns-in-NoRoom : goal.returns-in-NoRoom
