@@ -35,7 +35,7 @@ returns c =
     let x = c.args in
     let d = x.«data».now in
     let asks = told_of c.fields-h.ensures c.in-Ask.is c.ask_of.ensures in
-    asks-one x.limit (alfid x.address x.address-width x.wide) (alfid x.size x.size-width x.wide) d
+    asks-one x.limit (alfid x.address x.address_width x.wide) (alfid x.size x.size_width x.wide) d
     asks.1
     (rw c.limited-ask.ensures at c.run_alfid-x.ensures)
     (rw (← has.ensures, not-false has.result c.if-not-has_alfid.false-raw)

@@ -8,7 +8,7 @@ use Rattle.text.specs.Written.{Put, counted}
 use Rattle.rules.specs.Lines.{ascii, decimal}
 use lib.ListN.{length, get_or}
 use mathlib.Core.Path.{refl}
-use mathlib.Core.List.{◌∷◌, ◌++◌, append_assoc}
+use mathlib.Core.List.{[], ◌∷◌, ◌++◌, append_assoc}
 use Prim.Native.Nat.{◌+◌, ◌≤◌, ◌<◌}
 use borrow.Author.Tests.{le-leb, lt-leb}
 use Rattle.book_text.proofs.put_added.Goals as goal
@@ -30,7 +30,7 @@ put_byte-c-requires c =
     let d = short-call in
     let f = short-number in
     let p = was-put (counted (ascii "added") e.call) x.text.now 0 (omega (arith, c.if-text-lt-SHORT.false, d)) c.put_counted-a.ensures in
-    let q = was-put (counted [] e.number) c.put_counted-a.new.0 c.put_counted-a.result (omega
+    let q = was-put (counted [] e.number) c.put_counted-a.new.line c.put_counted-a.result (omega
     (arith, c.if-text-lt-SHORT.false, c.text-1.given, p.next, d, f)) c.put_counted-b.ensures in
     omega (arith, p.next, q.next, d, f, c.if-text-lt-SHORT.false, c.text-1.given, c.text-2-1.given)
 
@@ -43,7 +43,7 @@ put_counter-requires c =
     let d = short-call in
     let f = short-number in
     let p = was-put (counted (ascii "added") e.call) x.text.now 0 (omega (arith, c.if-text-lt-SHORT.false, d)) c.put_counted-a.ensures in
-    let q = was-put (counted [] e.number) c.put_counted-a.new.0 c.put_counted-a.result (omega
+    let q = was-put (counted [] e.number) c.put_counted-a.new.line c.put_counted-a.result (omega
     (arith, c.if-text-lt-SHORT.false, c.text-1.given, p.next, d, f)) c.put_counted-b.ensures in
     let there : 0 < c.number_at.result → e.place < 4176 = λ h. omega (
       arith,
@@ -77,10 +77,10 @@ returns c =
     let c1 = counted (ascii "added") e.call in
     let c2 = counted [] e.number in
     let p = was-put c1 x.text.now 0 (omega (arith, c.if-text-lt-SHORT.false, d)) c.put_counted-a.ensures in
-    let q = was-put c2 c.put_counted-a.new.0 c.put_counted-a.result (omega
+    let q = was-put c2 c.put_counted-a.new.line c.put_counted-a.result (omega
     (arith, c.if-text-lt-SHORT.false, c.text-1.given, p.next, d, f)) c.put_counted-b.ensures in
     let line = counter_line e.place (get_or x.summary.now e.place 0) in
-    let r : Put c.put_byte-c.new.0 c.put_byte-c.result line c.put_counter.new.0
+    let r : Put c.put_byte-c.new.text c.put_byte-c.result line c.put_counter.new.text
     c.put_counter.result = rw c.number_at.ensures at c.put_counter.ensures.put in
     let two = then (omega (arith, p.next, d, c.if-text-lt-SHORT.false)) p q in
     let three = then (omega (arith, p.next, q.next, d, f, c.if-text-lt-SHORT.false)) two c.put_byte-c.ensures in

@@ -60,7 +60,7 @@ loop-i-preserved c =
     let l = c.loop-i in
     let x = c.args in (
       omega arith,
-      next-put (form_of x.form) x.source x.events.now x.out.now l.out c.put_event.new.0 x.at l.i turn
+      next-put (form_of x.form) x.source x.events.now x.out.now l.out c.put_event.new.buffer x.at l.i turn
           (c.sent_from-event.ensures ∙ ap (from x.source) c.event_at.ensures) l.invariant.1 (rw c.event_size-size.ensures at c.put_event.ensures),
     )
 

@@ -41,6 +41,6 @@ pub returns : goal.returns
 returns c =
     let x = c.args in
     let small = fitted x.t.events x.t.bytes x.ms (length x.message.now) c.fits2.ensures c.if-not-fits.false-raw in
-    put_in x.t x.ms x.message.now x.log.now c.fits2.ensures c.copy_into.new.0 c.if-not-fits.false-raw
-    (grown x.log.now c.put_event.new.0 c.copy_into.new.0 _ x.message.now x.t.events x.t.bytes (search rules) refl
+    put_in x.t x.ms x.message.now x.log.now c.fits2.ensures c.copy_into.new.buffer c.if-not-fits.false-raw
+    (grown x.log.now c.put_event.new.buffer c.copy_into.new.buffer _ x.message.now x.t.events x.t.bytes (search rules) refl
     small.0 small.1 c.put_event.ensures c.copy_into.ensures)

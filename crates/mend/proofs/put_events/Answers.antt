@@ -68,7 +68,7 @@ loop-i-preserved c =
     let there = c.requires in
     let space = room in (
       omega arith,
-      next-event form bs x.out.now l.out c.put_event.new.0 x.at l.i bytes (omega arith) (omega arith) c.event_at.ensures l.invariant.1
+      next-event form bs x.out.now l.out c.put_event.new.buffer x.at l.i bytes (omega arith) (omega arith) c.event_at.ensures l.invariant.1
           (rw c.event_size-size.ensures at c.put_event.ensures),
     )
 

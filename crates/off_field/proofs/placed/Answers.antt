@@ -8,7 +8,6 @@ use Rattle.exchange.specs.Meaning.{form_of}
 use Rattle.exchange.proofs.Entries.{size-some}
 use Rattle.logs.specs.Layout.{said}
 use Rattle.logs.proofs.Forms.{moved-little, few_bytes}
-use Rattle.logs.proofs.Layouts.{above}
 use Rattle.off_field.proofs.placed.Goals as goal
 
 few : (form : Form) (n : ℕ) {size : ℕ} → size ≡ event_size form → n * size ≤ n * 12
@@ -119,5 +118,5 @@ returns-in-7 c =
 
 pub returns-in_default : goal.returns-in_default
 returns-in_default c =
-    let k : c.args.i ≡ 8 = omega (arith, c.requires, above c.args.i 8 c.in_default.rest) in
+    let k : c.args.i ≡ 8 = omega (arith, c.requires) in
     rw k

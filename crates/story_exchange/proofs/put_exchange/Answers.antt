@@ -18,8 +18,8 @@ loop-i-smaller c = omega arith
 pub loop-i-preserved : goal.loop-i-preserved
 loop-i-preserved c =
     after_on _ _ _ _ _ _ _ c.loop-i.invariant c.event_at-event.ensures c.if-i-count.false (omega arith) c.turn.ensures
-    (sym c.is_read.ensures ∙ not-false _ c.if-not-is_read.false-raw) c.in-On.is c.put_Going.ensures
-    c.put_Going.auto.0
+    (sym c.is_read.ensures ∙ not-false _ c.if-not-is_read.false-raw) c.in-On.is c.put_going-n.ensures
+    c.put_going-n.auto.text
 
 pub returns-then-i-count : goal.returns-then-i-count
 returns-then-i-count c =

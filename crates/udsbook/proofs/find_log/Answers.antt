@@ -10,5 +10,5 @@ returns-in-Log c =
 pub returns-in-Refused : goal.returns-in-Refused
 returns-in-Refused c =
     let x = c.args in
-    not_found x.book.now x.n x.call x.k c.in-Refused.number c.put_refusal.result x.said.now c.put_refusal.new.0 c.requires
+    not_found x.book.now x.n x.call x.k c.in-Refused.number c.put_refusal.result x.said.now c.put_refusal.new.text c.requires
     (rw (c.in-Refused.is, c.part.ensures) at c.find.ensures) c.put_refusal.ensures

@@ -29,7 +29,7 @@ returns-in-Line c =
     -- All that was read.
     let log = take c.args.n c.args.input.now in
     -- The line of what was handed on is the line of what was read.
-    let wrote : Wrote (line_of log) c.args.line.now c.line_of.result c.line_of.new.1.0 = rw (← c.part.ensures) c.line_of.ensures in
+    let wrote : Wrote (line_of log) c.args.line.now c.line_of.result c.line_of.new.line = rw (← c.part.ensures) c.line_of.ensures in
     stands log (bytes c.before.before.before.before.before) c.requires wrote c.in-Line.is
 
 pub returns-in-NoRoom : goal.returns-in-NoRoom
@@ -37,5 +37,5 @@ returns-in-NoRoom c =
     -- All that was read.
     let log = take c.args.n c.args.input.now in
     -- The line of what was handed on is the line of what was read.
-    let wrote : Wrote (line_of log) c.args.line.now c.line_of.result c.line_of.new.1.0 = rw (← c.part.ensures) c.line_of.ensures in
+    let wrote : Wrote (line_of log) c.args.line.now c.line_of.result c.line_of.new.line = rw (← c.part.ensures) c.line_of.ensures in
     absurd (never (always-room log (bytes c.before.before.before.before) c.requires wrote) c.in-NoRoom.is)

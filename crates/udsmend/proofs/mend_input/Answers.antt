@@ -15,7 +15,7 @@ returns-in-Log c =
     -- All that was read.
     let read = c.part.result.now in
     let x = c.args in
-    logged x.input.now read x.out.now c.mend.new.1.0 x.said.now c.put_report.new.0 x.n c.part.ensures
+    logged x.input.now read x.out.now c.mend.new.out x.said.now c.put_report.new.text x.n c.part.ensures
     c.in-Log.m c.put_report.result c.in-Log.report (rw c.in-Log.is at c.mend.ensures) c.put_report.ensures
 
 pub returns-in-Refused : goal.returns-in-Refused
@@ -23,7 +23,7 @@ returns-in-Refused c =
     -- All that was read.
     let read = c.part.result.now in
     let x = c.args in
-    refused x.input.now read x.out.now c.mend.new.1.0 x.said.now c.put_refusal.new.0 x.n c.part.ensures
+    refused x.input.now read x.out.now c.mend.new.out x.said.now c.put_refusal.new.text x.n c.part.ensures
     c.in-Refused.number c.put_refusal.result (rw c.in-Refused.is at c.mend.ensures) c.put_refusal.ensures
 
 pub returns-in-NoRoom : goal.returns-in-NoRoom
@@ -33,4 +33,4 @@ returns-in-NoRoom c =
     let bytes : every is_byte read ≡ true = let x = c.args in
         let input = are-bytes x.input.now (λ i. omega (arith, c.shared_slice_known-1.given i)) in
         rw c.part.ensures (every_take is_byte x.n x.input.now input) in
-    absurd (room-enough read c.args.out.now bytes (inr c.requires.0) c.mend.new.1.0 (rw c.in-NoRoom.is at c.mend.ensures))
+    absurd (room-enough read c.args.out.now bytes (inr c.requires.0) c.mend.new.out (rw c.in-NoRoom.is at c.mend.ensures))

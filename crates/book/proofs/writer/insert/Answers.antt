@@ -81,14 +81,14 @@ returns c =
     let rest : n - c.start-logs_at.result ≡ length (joined logs) = omega (arith, long) in
     let z1 = after-log z n is reach log c.requires.2 in
     let step1 = c.copy_into.ensures.buffer ∙ z1 in
-    let z2 = ap₂ (λ (k m : ℕ). with c.copy_into.new.0 (k + 8) (area c.copy_into.new.0 k m)) started rest in
-    let step2 = c.move_on.ensures ∙ z2 ∙ after-move z n is reach log c.requires.2 c.copy_into.new.0 step1 in
+    let z2 = ap₂ (λ (k m : ℕ). with c.copy_into.new.buffer (k + 8) (area c.copy_into.new.buffer k m)) started rest in
+    let step2 = c.move_on.ensures ∙ z2 ∙ after-move z n is reach log c.requires.2 c.copy_into.new.buffer step1 in
     let e : c.entry_bytes-entry.result ≡ entry (n + 8) log = c.entry_bytes-entry.ensures ∙ ap (λ (k : ℕ). k ∷ 0 ∷ two
     (length log) ++ four (n + 8)) c.call_in.ensures in
-    let z3 = ap₂ (λ (k : ℕ) (bs : List ℕ). with c.move_on.new.0 k bs) started e in
-    let step3 = c.copy_into-2.ensures.buffer ∙ z3 ∙ after-entry z n is reach log c.requires.2 c.move_on.new.0 step2 in
-    let z4 = ap₂ (λ (k m : ℕ). take 20 c.copy_into-2.new.0 ++ moved (k + 8) m (drop 20 c.copy_into-2.new.0)) started
+    let z3 = ap₂ (λ (k : ℕ) (bs : List ℕ). with c.move_on.new.book k bs) started e in
+    let step3 = c.copy_into-2.ensures.buffer ∙ z3 ∙ after-entry z n is reach log c.requires.2 c.move_on.new.book step2 in
+    let z4 = ap₂ (λ (k m : ℕ). take 20 c.copy_into-2.new.buffer ++ moved (k + 8) m (drop 20 c.copy_into-2.new.buffer)) started
     counted in
-    let step4 = c.put_offsets.ensures ∙ z4 ∙ after-offsets z n is reach log c.requires.2 c.copy_into-2.new.0 step3 in
-    let z5 = ap₂ (λ (k m : ℕ). with c.put_offsets.new.0 0 (header (k + 1) (m + length log))) counted rest in
-    c.put_header.ensures.buffer ∙ z5 ∙ after-header z n is reach log c.requires.2 c.put_offsets.new.0 step4
+    let step4 = c.put_offsets.ensures ∙ z4 ∙ after-offsets z n is reach log c.requires.2 c.copy_into-2.new.buffer step3 in
+    let z5 = ap₂ (λ (k m : ℕ). with c.put_offsets.new.book 0 (header (k + 1) (m + length log))) counted rest in
+    c.put_header.ensures.buffer ∙ z5 ∙ after-header z n is reach log c.requires.2 c.put_offsets.new.book step4

@@ -1,6 +1,5 @@
 -- `checks::services::bounded` meets its contract.
 use Rattle.exchange.proofs.Verdicts.{right-passes, lenient-passes}
-use borrow.Author.Tests.{eq-eqb}
 use mathlib.Core.Bool.{true}
 use mathlib.Core.Path.{◌≡◌}
 use borrow.Author.Tests.{not-true}
@@ -21,5 +20,5 @@ returns-then-not-within c =
 pub returns : goal.returns
 returns c =
     -- The length is within the bounds wherever they count.
-    let fits : let x = c.args in (bounds x.strict x.minimum (maximum_of x.maximum) x.reply.now).test ≡ true = elim c.else-strict.branch [ else-strict-via-then-strict+else-not-within w ↦ rw (← w.length_error.ensures, eq-eqb _ _ w.if-not-within.false) (right-passes _) | else-strict-via-else-strict w ↦ lenient-passes _ _ w.if-strict.false ] in
+    let fits : let x = c.args in (bounds x.strict x.minimum (maximum_of x.maximum) x.reply.now).test ≡ true = elim c.else-strict.branch [ else-strict-via-then-strict+else-not-within w ↦ rw (← w.within.ensures, w.if-not-within.false) (right-passes _) | else-strict-via-else-strict w ↦ lenient-passes _ _ w.if-strict.false ] in
     rw fits

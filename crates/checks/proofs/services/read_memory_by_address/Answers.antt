@@ -1,6 +1,6 @@
 -- `checks::services::read_memory_by_address` meets its contract.
 use Rattle.exchange.proofs.Verdicts.{right-passes, lenient-passes}
-use borrow.Author.Tests.{eq-eqb}
+use borrow.Author.Tests.{le-leb}
 use mathlib.Core.Bool.{true}
 use mathlib.Core.Path.{◌≡◌}
 use borrow.Author.Tests.{not-true}
@@ -9,7 +9,7 @@ use lib.ListN.{length, drop}
 use Rattle.rules.specs.Bytes.{value}
 use Rattle.rules.specs.InOrder.{in_strict}
 use Rattle.exchange.proofs.Verdicts.{strict-fails, strict-passes}
-use Rattle.checks.proofs.Tests.{less, not-less}
+use Rattle.checks.proofs.Tests.{less}
 use Rattle.checks.proofs.services.read_memory_by_address.Goals as goal
 use Rattle.checks.proofs.services.read_memory_by_address.Goals.{else-strict-via-else-strict, else-strict-via-then-strict+else-not-record_length_is}
 
@@ -24,7 +24,7 @@ returns-then-not-record_length_is c =
 pub returns-then-reply-lt2 : goal.returns-then-reply-lt2
 returns-then-reply-lt2 c =
     -- The record is as long as was asked for, wherever it counts.
-    let long : let x = c.args in in_strict x.strict (eqb (length (drop 1 x.reply.now)) (value x.size.now)) ≡ true = elim c.else-strict.branch [ else-strict-via-then-strict+else-not-record_length_is w ↦ rw (← w.rest.ensures, ← w.record_length_is.ensures, eq-eqb _ _ w.if-not-record_length_is.false) (right-passes _) | else-strict-via-else-strict w ↦ lenient-passes _ _ w.if-strict.false ] in
+    let long : let x = c.args in in_strict x.strict (eqb (length (drop 1 x.reply.now)) (value x.size.now)) ≡ true = elim c.else-strict.branch [ else-strict-via-then-strict+else-not-record_length_is w ↦ rw (← w.rest.ensures, ← w.record_length_is.ensures, w.if-not-record_length_is.false) (right-passes _) | else-strict-via-else-strict w ↦ lenient-passes _ _ w.if-strict.false ] in
     let x = c.args in
     rw (
       long,
@@ -35,9 +35,9 @@ returns-then-reply-lt2 c =
 pub returns : goal.returns
 returns c =
     -- The record is as long as was asked for, wherever it counts.
-    let long : let x = c.args in in_strict x.strict (eqb (length (drop 1 x.reply.now)) (value x.size.now)) ≡ true = elim c.else-strict.branch [ else-strict-via-then-strict+else-not-record_length_is w ↦ rw (← w.rest.ensures, ← w.record_length_is.ensures, eq-eqb _ _ w.if-not-record_length_is.false) (right-passes _) | else-strict-via-else-strict w ↦ lenient-passes _ _ w.if-strict.false ] in
+    let long : let x = c.args in in_strict x.strict (eqb (length (drop 1 x.reply.now)) (value x.size.now)) ≡ true = elim c.else-strict.branch [ else-strict-via-then-strict+else-not-record_length_is w ↦ rw (← w.rest.ensures, ← w.record_length_is.ensures, w.if-not-record_length_is.false) (right-passes _) | else-strict-via-else-strict w ↦ lenient-passes _ _ w.if-strict.false ] in
     let x = c.args in
     rw (
       long,
-      strict-passes c.else-strict-2.branch (λ w. not-less 2 (length x.reply.now) w.1.left) (λ w. w.left),
+      strict-passes c.else-strict-2.either (λ w. le-leb _ _ w.1) (λ w. w),
     )

@@ -25,7 +25,7 @@ returns-then-not-within c =
 pub returns-then-wide-size : goal.returns-then-wide-size
 returns-then-wide-size c =
     -- What the checks that have passed tell, each in the definition's words.
-    let length-right : let x = c.args in (exactly x.strict (2 + length x.address.now + length x.size.now) x.reply.now).test ≡ true = elim c.else-strict.branch [ else-strict-via-then-strict+else-not-within w ↦ rw (← w.length_error.ensures, eq-eqb _ _ w.if-not-within.false) (right-passes _) | else-strict-via-else-strict w ↦ lenient-passes _ _ w.if-strict.false ] in
+    let length-right : let x = c.args in (exactly x.strict (2 + length x.address.now + length x.size.now) x.reply.now).test ≡ true = elim c.else-strict.branch [ else-strict-via-then-strict+else-not-within w ↦ rw (← w.within.ensures, w.if-not-within.false) (right-passes _) | else-strict-via-else-strict w ↦ lenient-passes _ _ w.if-strict.false ] in
     let x = c.args in
     let other = not-true (eqb c.wide.result (length x.size.now * 16 + length x.address.now)) c.if-wide-size.true-raw in
     rw (
@@ -38,7 +38,7 @@ returns-then-wide-size c =
 pub returns-then-not-same : goal.returns-then-not-same
 returns-then-not-same c =
     -- What the checks that have passed tell, each in the definition's words.
-    let length-right : let x = c.args in (exactly x.strict (2 + length x.address.now + length x.size.now) x.reply.now).test ≡ true = elim c.else-strict.branch [ else-strict-via-then-strict+else-not-within w ↦ rw (← w.length_error.ensures, eq-eqb _ _ w.if-not-within.false) (right-passes _) | else-strict-via-else-strict w ↦ lenient-passes _ _ w.if-strict.false ] in
+    let length-right : let x = c.args in (exactly x.strict (2 + length x.address.now + length x.size.now) x.reply.now).test ≡ true = elim c.else-strict.branch [ else-strict-via-then-strict+else-not-within w ↦ rw (← w.within.ensures, w.if-not-within.false) (right-passes _) | else-strict-via-else-strict w ↦ lenient-passes _ _ w.if-strict.false ] in
     let format-right : let x = c.args in in_strict x.strict (eqb (get_or x.reply.now 1 0) (length x.size.now * 16 + length x.address.now)) ≡ true = elim c.else-strict-2.branch [ else-strict-2-via-then-strict-2+else-wide-size w ↦ rw (← w.byte_at.ensures, ← w.wide.ensures.0, eq-eqb _ _ w.if-wide-size.false) (right-passes _) | else-strict-2-via-else-strict-2 w ↦ lenient-passes _ _ w.if-strict-2.false ] in
     rw (
       length-right,
@@ -51,9 +51,9 @@ returns-then-not-same c =
 pub returns-then-not-same-2 : goal.returns-then-not-same-2
 returns-then-not-same-2 c =
     -- What the checks that have passed tell, each in the definition's words.
-    let length-right : let x = c.args in (exactly x.strict (2 + length x.address.now + length x.size.now) x.reply.now).test ≡ true = elim c.else-strict.branch [ else-strict-via-then-strict+else-not-within w ↦ rw (← w.length_error.ensures, eq-eqb _ _ w.if-not-within.false) (right-passes _) | else-strict-via-else-strict w ↦ lenient-passes _ _ w.if-strict.false ] in
+    let length-right : let x = c.args in (exactly x.strict (2 + length x.address.now + length x.size.now) x.reply.now).test ≡ true = elim c.else-strict.branch [ else-strict-via-then-strict+else-not-within w ↦ rw (← w.within.ensures, w.if-not-within.false) (right-passes _) | else-strict-via-else-strict w ↦ lenient-passes _ _ w.if-strict.false ] in
     let format-right : let x = c.args in in_strict x.strict (eqb (get_or x.reply.now 1 0) (length x.size.now * 16 + length x.address.now)) ≡ true = elim c.else-strict-2.branch [ else-strict-2-via-then-strict-2+else-wide-size w ↦ rw (← w.byte_at.ensures, ← w.wide.ensures.0, eq-eqb _ _ w.if-wide-size.false) (right-passes _) | else-strict-2-via-else-strict-2 w ↦ lenient-passes _ _ w.if-strict-2.false ] in
-    let address-right : let x = c.args in in_strict x.strict (same (take (length x.address.now) (drop 2 x.reply.now)) x.address.now) ≡ true = elim c.else-strict-3.branch [ else-strict-3-via-then-strict-3+else-not-same w ↦ rw (← w.part.ensures, ← w.same.ensures, eq-eqb _ _ w.if-not-same.false) (right-passes _) | else-strict-3-via-else-strict-3 w ↦ lenient-passes _ _ w.if-strict-3.false ] in
+    let address-right : let x = c.args in in_strict x.strict (same (take (length x.address.now) (drop 2 x.reply.now)) x.address.now) ≡ true = elim c.else-strict-3.branch [ else-strict-3-via-then-strict-3+else-not-same w ↦ rw (← w.part.ensures, ← w.same.ensures, w.if-not-same.false) (right-passes _) | else-strict-3-via-else-strict-3 w ↦ lenient-passes _ _ w.if-strict-3.false ] in
     rw (
       length-right,
       format-right,
@@ -67,8 +67,8 @@ returns-then-not-same-2 c =
 pub returns : goal.returns
 returns c =
     -- What the checks that have passed tell, each in the definition's words.
-    let length-right : let x = c.args in (exactly x.strict (2 + length x.address.now + length x.size.now) x.reply.now).test ≡ true = elim c.else-strict.branch [ else-strict-via-then-strict+else-not-within w ↦ rw (← w.length_error.ensures, eq-eqb _ _ w.if-not-within.false) (right-passes _) | else-strict-via-else-strict w ↦ lenient-passes _ _ w.if-strict.false ] in
+    let length-right : let x = c.args in (exactly x.strict (2 + length x.address.now + length x.size.now) x.reply.now).test ≡ true = elim c.else-strict.branch [ else-strict-via-then-strict+else-not-within w ↦ rw (← w.within.ensures, w.if-not-within.false) (right-passes _) | else-strict-via-else-strict w ↦ lenient-passes _ _ w.if-strict.false ] in
     let format-right : let x = c.args in in_strict x.strict (eqb (get_or x.reply.now 1 0) (length x.size.now * 16 + length x.address.now)) ≡ true = elim c.else-strict-2.branch [ else-strict-2-via-then-strict-2+else-wide-size w ↦ rw (← w.byte_at.ensures, ← w.wide.ensures.0, eq-eqb _ _ w.if-wide-size.false) (right-passes _) | else-strict-2-via-else-strict-2 w ↦ lenient-passes _ _ w.if-strict-2.false ] in
-    let address-right : let x = c.args in in_strict x.strict (same (take (length x.address.now) (drop 2 x.reply.now)) x.address.now) ≡ true = elim c.else-strict-3.branch [ else-strict-3-via-then-strict-3+else-not-same w ↦ rw (← w.part.ensures, ← w.same.ensures, eq-eqb _ _ w.if-not-same.false) (right-passes _) | else-strict-3-via-else-strict-3 w ↦ lenient-passes _ _ w.if-strict-3.false ] in
-    let size-right : let x = c.args in in_strict x.strict (same (drop (length x.address.now) (drop 2 x.reply.now)) x.size.now) ≡ true = elim c.else-strict-4.branch [ else-strict-4-via-then-strict-4+else-not-same-2 w ↦ rw (← w.rest.ensures, ← w.rest-then-strict-4.ensures, ← w.same-then-strict-4.ensures, eq-eqb _ _ w.if-not-same-2.false) (right-passes _) | else-strict-4-via-else-strict-4 w ↦ lenient-passes _ _ w.if-strict-4.false ] in
+    let address-right : let x = c.args in in_strict x.strict (same (take (length x.address.now) (drop 2 x.reply.now)) x.address.now) ≡ true = elim c.else-strict-3.branch [ else-strict-3-via-then-strict-3+else-not-same w ↦ rw (← w.part.ensures, ← w.same.ensures, w.if-not-same.false) (right-passes _) | else-strict-3-via-else-strict-3 w ↦ lenient-passes _ _ w.if-strict-3.false ] in
+    let size-right : let x = c.args in in_strict x.strict (same (drop (length x.address.now) (drop 2 x.reply.now)) x.size.now) ≡ true = elim c.else-strict-4.branch [ else-strict-4-via-then-strict-4+else-not-same-2 w ↦ rw (← w.rest.ensures, ← w.rest-then-strict-4.ensures, ← w.same-then-strict-4.ensures, w.if-not-same-2.false) (right-passes _) | else-strict-4-via-else-strict-4 w ↦ lenient-passes _ _ w.if-strict-4.false ] in
     rw (length-right, format-right, address-right, size-right)

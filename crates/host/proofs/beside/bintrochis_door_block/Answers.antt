@@ -9,13 +9,13 @@ use Rattle.host.proofs.beside.bintrochis_door_block.Goals as goal
 pub overflow_sub-at : goal.overflow_sub-at
 overflow_sub-at c =
     -- That `counter` gave a counter says that block k begins inside the data.
-    let inside : let a = c.args in Given a.«data».now a.block-length a.k c.in-Counter.counter = given _ _ _ _ (sym c.counter.ensures ∙ c.in-Counter.is) in
+    let inside : let a = c.args in Given a.«data».now a.block_length a.k c.in-Counter.counter = given _ _ _ _ (sym c.counter.ensures ∙ c.in-Counter.is) in
     omega (arith, inside.long)
 
 pub overflow_mul-at : goal.overflow_mul-at
 overflow_mul-at c =
     -- That `counter` gave a counter says that block k begins inside the data.
-    let inside : let a = c.args in Given a.«data».now a.block-length a.k c.in-Counter.counter = given _ _ _ _ (sym c.counter.ensures ∙ c.in-Counter.is) in
+    let inside : let a = c.args in Given a.«data».now a.block_length a.k c.in-Counter.counter = given _ _ _ _ (sym c.counter.ensures ∙ c.in-Counter.is) in
     omega (arith, inside.begins)
 
 pub returns-in-Refused : goal.returns-in-Refused
