@@ -1,5 +1,6 @@
 // Document 01, "Cutting a download", with request Two: the blocks of lent data, and their counters. What a block is, is `block` of `rules`.
 #![tactic(auto)]
+
 ghost use Rattle.std.specs.Prelude.{◌≡◌};
 ghost use Rattle.rules.specs.Blocks.{block};
 ghost use Rattle.blocks.specs.Cuts.{cut};

@@ -1,15 +1,15 @@
 -- What one character more in front does to each part of the grammar.
-use Prim.Native.Nat.{ℕ, zero, suc, ◌+◌, ◌-◌, ◌*◌, ◌%◌, ◌≤◌, ◌<◌}
-use native.Mathlib.Nat.{add-zero, zero-add}
+use Prim.Native.Nat.{ℕ, suc, ◌+◌, ◌-◌, ◌*◌, ◌%◌, ◌<◌}
+use native.Mathlib.Nat.{add-zero}
 use native.Mathlib.Omega.{arith}
 use mathlib.Core.Bool.{Bool, true, false, cond, ◌&&◌, ◌||◌, false≢true}
-use mathlib.Core.List.{List, [], ◌∷◌, ◌++◌}
+use mathlib.Core.List.{List, [], ◌∷◌}
 use mathlib.Core.Path.{◌≡◌, refl, sym, ◌∙◌, ap}
-use lib.Dec.{leb, ltb, eqb}
+use lib.Dec.{leb, eqb}
 use lib.ListN.{length}
-use borrow.Author.Tests.{eq-eqb, ne_eqb, eqb-true, leb-true, lt-leb}
-use Rattle.candump.specs.Text.{between, Class, Space, Digit, Hex, Printable, is, run, past, worth, number, pairs}
-use Rattle.candump.specs.Lines.{Line, blank, unreadable, other, frame, front, rest, none, some, is_direction, ends, is_data, is_remote, is_fd, classic, content}
+use borrow.Author.Tests.{ne_eqb, eqb-true, leb-true, lt-leb}
+use Rattle.candump.specs.Text.{between, Class, Space, Digit, Hex, Printable, is, run, past, worth}
+use Rattle.candump.specs.Lines.{blank, unreadable, front, rest, none, some, is_direction, ends, content}
 use Rattle.candump.specs.Lines.{is_identifier, identifier, identified, unnamed, named, timed, micros, seconds, opened, whole}
 
 pub and-false : (a : Bool) → (a && false) ≡ false

@@ -1,46 +1,40 @@
 -- The phases that a `match` of the code does not name.
 use Prim.Native.Nat.{ℕ}
 use mathlib.Core.Bool.{false}
-use mathlib.Core.List.{List, [], ◌∷◌}
+use mathlib.Core.List.{List}
 use mathlib.Core.Path.{◌≡◌, refl}
-use types.Run.{OneOf, miss}
-use denote.Enum.Declared.{tag_of}
 use Rattle.candump.specs.Reading.{stored, ended, hopeless}
+use Rattle.candump.specs.declared.Found.{Found}
 use Rattle.candump.specs.declared.Found.TheVariants.{Unreadable}
 use Rattle.candump.specs.declared.Phase.{Phase}
 use Rattle.candump.specs.declared.Phase.TheVariants.{Start, Blanks, Seconds, Micros, Closed, BeforeName, Name, BeforeIdentifier, Identifier}
 use Rattle.candump.specs.declared.Phase.TheVariants.{Data, Half, Remote, Fd, Behind, Spaced, Directed, Bad}
-use Rattle.candump.specs.contracts.Phase.{the_type}
-
-abbrev pub untold : List ℕ
-untold = 2 ∷ 3 ∷ 4 ∷ 5 ∷ 6 ∷ 7 ∷ 8 ∷ 10 ∷ 16 ∷ []
 
 -- A line that ends there can't be read.
-pub ends-unreadable : (p : Phase) → OneOf untold (tag_of the_type p) → Unreadable ≡ ended p
+pub ends-unreadable : (p : Phase) → (p ≡ Start → ⊥) → (p ≡ Blanks → ⊥) → ((t id n : ℕ) → p ≡ Data t id n → ⊥) → ((t : ℕ) → p ≡ Remote t → ⊥) →
+    ((t n : ℕ) → p ≡ Fd t n → ⊥) → ((f : Found) → p ≡ Behind f → ⊥) → ((f : Found) → p ≡ Spaced f → ⊥) → ((f : Found) → p ≡ Directed f → ⊥) →
+    Unreadable ≡ ended p
 unfolding ended
-ends-unreadable Start k = absurd (miss untold 0 _ k)
-ends-unreadable Blanks k = absurd (miss untold 1 _ k)
-ends-unreadable (Seconds n v) k = refl
-ends-unreadable (Micros s n v) k = refl
-ends-unreadable (Closed t) k = refl
-ends-unreadable (BeforeName t) k = refl
-ends-unreadable (Name t) k = refl
-ends-unreadable (BeforeIdentifier t) k = refl
-ends-unreadable (Identifier t n v) k = refl
-ends-unreadable (Data t id n) k = absurd (miss untold 9 _ k)
-ends-unreadable (Half t id n h) k = refl
-ends-unreadable (Remote t) k = absurd (miss untold 11 _ k)
-ends-unreadable (Fd t n) k = absurd (miss untold 12 _ k)
-ends-unreadable (Behind f) k = absurd (miss untold 13 _ k)
-ends-unreadable (Spaced f) k = absurd (miss untold 14 _ k)
-ends-unreadable (Directed f) k = absurd (miss untold 15 _ k)
-ends-unreadable Bad k = refl
-
-abbrev pub not_half : List ℕ
-not_half = 0 ∷ 1 ∷ 2 ∷ 3 ∷ 4 ∷ 5 ∷ 6 ∷ 7 ∷ 8 ∷ 9 ∷ 11 ∷ 12 ∷ 13 ∷ 14 ∷ 15 ∷ 16 ∷ []
+ends-unreadable Start st _ _ _ _ _ _ _ = absurd (st refl)
+ends-unreadable Blanks _ bl _ _ _ _ _ _ = absurd (bl refl)
+ends-unreadable (Seconds n v) _ _ _ _ _ _ _ _ = refl
+ends-unreadable (Micros s n v) _ _ _ _ _ _ _ _ = refl
+ends-unreadable (Closed t) _ _ _ _ _ _ _ _ = refl
+ends-unreadable (BeforeName t) _ _ _ _ _ _ _ _ = refl
+ends-unreadable (Name t) _ _ _ _ _ _ _ _ = refl
+ends-unreadable (BeforeIdentifier t) _ _ _ _ _ _ _ _ = refl
+ends-unreadable (Identifier t n v) _ _ _ _ _ _ _ _ = refl
+ends-unreadable (Data t id n) _ _ da _ _ _ _ _ = absurd (da t id n refl)
+ends-unreadable (Half t id n h) _ _ _ _ _ _ _ _ = refl
+ends-unreadable (Remote t) _ _ _ re _ _ _ _ = absurd (re t refl)
+ends-unreadable (Fd t n) _ _ _ _ fd _ _ _ = absurd (fd t n refl)
+ends-unreadable (Behind f) _ _ _ _ _ be _ _ = absurd (be f refl)
+ends-unreadable (Spaced f) _ _ _ _ _ _ sp _ = absurd (sp f refl)
+ends-unreadable (Directed f) _ _ _ _ _ _ _ di = absurd (di f refl)
+ends-unreadable Bad _ _ _ _ _ _ _ _ = refl
 
 -- No byte is whole there.
-pub nothing_stored : (p : Phase) (d : List ℕ) (c : ℕ) → OneOf not_half (tag_of the_type p) → d ≡ stored p d c
+pub nothing_stored : (p : Phase) (d : List ℕ) (c : ℕ) → ((t id n h : ℕ) → p ≡ Half t id n h → ⊥) → d ≡ stored p d c
 unfolding stored
 nothing_stored Start d c k = refl
 nothing_stored Blanks d c k = refl
@@ -52,7 +46,7 @@ nothing_stored (Name t) d c k = refl
 nothing_stored (BeforeIdentifier t) d c k = refl
 nothing_stored (Identifier t n v) d c k = refl
 nothing_stored (Data t id n) d c k = refl
-nothing_stored (Half t id n h) d c k = absurd (miss not_half 10 _ k)
+nothing_stored (Half t id n h) d c k = absurd (k t id n h refl)
 nothing_stored (Remote t) d c k = refl
 nothing_stored (Fd t n) d c k = refl
 nothing_stored (Behind f) d c k = refl
@@ -60,11 +54,8 @@ nothing_stored (Spaced f) d c k = refl
 nothing_stored (Directed f) d c k = refl
 nothing_stored Bad d c k = refl
 
-abbrev pub not_bad : List ℕ
-not_bad = 0 ∷ 1 ∷ 2 ∷ 3 ∷ 4 ∷ 5 ∷ 6 ∷ 7 ∷ 8 ∷ 9 ∷ 10 ∷ 11 ∷ 12 ∷ 13 ∷ 14 ∷ 15 ∷ []
-
 -- A line may still be read there.
-pub some-hope : (p : Phase) → OneOf not_bad (tag_of the_type p) → false ≡ hopeless p
+pub some-hope : (p : Phase) → (p ≡ Bad → ⊥) → false ≡ hopeless p
 unfolding hopeless
 some-hope Start k = refl
 some-hope Blanks k = refl
@@ -82,4 +73,4 @@ some-hope (Fd t n) k = refl
 some-hope (Behind f) k = refl
 some-hope (Spaced f) k = refl
 some-hope (Directed f) k = refl
-some-hope Bad k = absurd (miss not_bad 16 _ k)
+some-hope Bad k = absurd (k refl)

@@ -4,19 +4,19 @@ use native.Mathlib.Nat.{add-zero, zero-add}
 use native.Mathlib.Numerals.{add-one}
 use native.Mathlib.Omega.{arith}
 use mathlib.Core.Bool.{Bool, true, false, cond, ◌&&◌, ◌||◌, false≢true}
-use mathlib.Core.List.{List, [], ◌∷◌, ◌++◌, append-nil, append_assoc}
+use mathlib.Core.List.{List, [], ◌∷◌, ◌++◌, append-nil}
 use mathlib.Core.Path.{◌≡◌, refl, sym, ◌∙◌, ap, ap₂}
 use lib.Dec.{leb, ltb, eqb}
 use lib.ListN.{length, take, set, replicate, length-set}
 use lib.Seq.{take-suc-set, append_snoc}
-use borrow.Author.Tests.{eq-eqb, ne_eqb, eqb-true, eqb-false, le-leb, lt-leb, lt-ltb, le-ltb, ltb-true, ltb-false}
-use Rattle.candump.specs.Text.{between, Class, Space, Digit, Hex, Printable, is, run, past, worth, number, pairs}
-use Rattle.candump.specs.Lines.{Line, blank, unreadable, other, frame, front, rest, none, some, is_direction, ends, is_data, is_remote, is_fd, classic, content}
+use borrow.Author.Tests.{eq-eqb, ne_eqb, eqb-true, eqb-false, le-leb, lt-leb, ltb-true, ltb-false}
+use Rattle.candump.specs.Text.{between, Space, Hex, Printable, is, run, past, worth, pairs}
+use Rattle.candump.specs.Lines.{Line, blank, unreadable, other, frame, front, rest, none, is_direction, ends, is_data, is_remote, is_fd, classic, content}
 use Rattle.candump.specs.Lines.{is_identifier, identifier, identified, unnamed, named, timed, micros, seconds, opened, bare, whole, read}
-use Rattle.candump.specs.Reading.{more, microseconds, can_id, classic_found, after, stored, next, ended, begun, line_of, read_on, hopeless, Reads}
+use Rattle.candump.specs.Reading.{more, microseconds, can_id, classic_found, after, stored, next, ended, line_of, read_on, hopeless, Reads}
 use Rattle.candump.specs.Reading.{Hopeless}
 use Rattle.candump.specs.declared.Found.{Found}
-use Rattle.candump.specs.declared.Found.TheVariants.{Blank, Unreadable, Other, Frame}
+use Rattle.candump.specs.declared.Found.TheVariants.{Unreadable, Other, Frame}
 use Rattle.candump.specs.declared.Phase.{Phase}
 use Rattle.candump.specs.declared.Phase.TheVariants.{Start, Blanks, Seconds, Micros, Closed, BeforeName, Name, BeforeIdentifier, Identifier}
 use Rattle.candump.specs.declared.Phase.TheVariants.{Data, Half, Remote, Fd, Behind, Spaced, Directed, Bad}

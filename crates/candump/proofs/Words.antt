@@ -2,10 +2,9 @@
 use Prim.Native.Nat.{ℕ, ◌+◌, ◌*◌, ◌%◌, ◌≤◌, ◌<◌}
 use native.Mathlib.Numerals.{add-one}
 use native.Mathlib.Omega.{arith}
-use mathlib.Core.Bool.{Bool, true, false, cond, not, ◌&&◌, ◌||◌}
+use mathlib.Core.Bool.{Bool, true, false, cond, not, ◌&&◌}
 use mathlib.Core.List.{List, [], ◌∷◌, ◌++◌}
-use mathlib.Core.Path.{◌≡◌, refl, sym, ◌∙◌, ap, ap₂}
-use lib.Dec.{leb, eqb}
+use mathlib.Core.Path.{◌≡◌, refl, sym, ◌∙◌, ap}
 use lib.ListN.{length, get_or, take}
 use lib.Seq.{take-suc, take_all}
 use borrow.Author.Tests.{ne_eqb}
@@ -14,7 +13,6 @@ use Rattle.candump.specs.Text.{Hex, is, worth, number}
 use Rattle.candump.specs.Lines.{identifier}
 use Rattle.candump.specs.Reading.{more, can_id}
 use Rattle.candump.specs.Words.{names, identifier_in, rows, Rows}
-use Rattle.candump.specs.declared.Named.{Named}
 use Rattle.candump.specs.declared.Named.TheVariants.{Id, Nothing}
 use Rattle.candump.proofs.Grammar.{and-false}
 use Rattle.candump.proofs.Reading.{power, power-ten, same_more, more-sixteen}

@@ -1,5 +1,5 @@
 -- A line of `candump -L`: (SECONDS.MICROSECONDS) INTERFACE IDENTIFIER#CONTENT[ DIRECTION]
-use Rattle.std.specs.Prelude.{ℕ, ◌+◌, ◌-◌, ◌*◌, ◌%◌, Bool, true, false, cond, ◌&&◌, ◌||◌, List, [], ◌∷◌, leb, eqb, length, get_or, take, drop}
+use Rattle.std.specs.Prelude.{ℕ, ◌+◌, ◌*◌, ◌%◌, Bool, true, false, cond, ◌&&◌, ◌||◌, List, [], ◌∷◌, leb, eqb, length, get_or, drop}
 use Rattle.candump.specs.Text.{between, Space, Digit, Hex, Printable, run, past, number, pairs}
 
 pub data Line : Type 0 where

@@ -1,5 +1,5 @@
 -- A word that names an identifier: "three digits up to 7FF for 11 bits, eight up to 1FFFFFFF for 29 bits", and nothing else.
-use Rattle.std.specs.Prelude.{ℕ, Bool, cond, ◌&&◌, ◌||◌, List, [], ◌∷◌, ◌++◌, map, ◌≡◌, leb, eqb, length}
+use Rattle.std.specs.Prelude.{ℕ, Bool, cond, ◌&&◌, ◌||◌, List, [], ◌∷◌, map, ◌≡◌, leb, eqb, length}
 use Prim.Native.String.{String}
 use Rattle.rules.specs.Bytes.{every}
 use Rattle.rules.specs.Lines.{ascii}

@@ -1,5 +1,6 @@
 // `candump` reads a line of `candump -L` a byte at a time: no line is too long, and none is kept.
 #![tactic(auto)]
+
 ghost use Rattle.std.specs.Prelude.{◌||◌, ◌&&◌, cond, ◌≡◌, ◌+◌, ◌-◌, ◌*◌, ◌%◌, ◌≤◌, ◌<◌, eqb};
 ghost use Rattle.candump.specs.declared.Found.TheVariants.{Other, Unreadable};
 ghost use Rattle.candump.specs.declared.Phase.TheVariants.{Bad};

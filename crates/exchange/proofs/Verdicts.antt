@@ -52,6 +52,13 @@ strict-passes {strict = strict} (inl a) right lenient = passes strict (right a)
     passes true e = e
     passes false e = refl
 
+pub right-passes : (strict : Bool) → in_strict strict true ≡ true
+right-passes true = refl
+right-passes false = refl
+
+pub lenient-passes : (strict test : Bool) → strict ≡ false → in_strict strict test ≡ true
+lenient-passes strict test e = rw e
+
 -- A reply that is granted has the bytes before the data.
 echoed-head : (strict : Bool) (sub : Option ℕ) (r : List ℕ) (more : List (Check Fault)) → 0 < length r → first_of (echoing strict sub r ++ more) ≡ none
     → head sub ≤ length r

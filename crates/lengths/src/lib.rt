@@ -1,5 +1,6 @@
 // Numbers that a reply or a request spells in bytes, high byte first: the block length of calls 11 and 12, and the record length of call 5.
 #![tactic(auto)]
+
 ghost use Rattle.std.specs.Prelude.{◌≡◌, ◌<◌, eqb};
 ghost use Rattle.rules.specs.Bytes.{value};
 ghost use Rattle.lengths.specs.Numbers.{number_of};

@@ -73,11 +73,6 @@ none-used (suc (suc (suc (suc k)))) o s =
     let n = suc (suc (suc (suc k))) in
     rw (lt-ltb 3 n (omega arith), ne_eqb n 0 (λ e. omega arith), ne_eqb n 1 (λ e. omega arith), ne_eqb n 2 (λ e. omega arith), ne_eqb n 3 (λ e. omega arith))
 
--- Whether the version is one of the two, from the one test or the other.
-pub either : {A B : Type 0} (v : ℕ) {t : Bool} → A ⊎ B → (A → (v ≡ 1) × (t ≡ eqb v 1)) → (B → (v ≢ 1) × (t ≡ eqb v 2)) → t ≡ (eqb v 1 || eqb v 2)
-either v (inl a) one other = (one a).1 ∙ rw (eq-eqb v 1 (one a).0)
-either v (inr b) one other = (other b).1 ∙ rw (ne_eqb v 1 (other b).0)
-
 -- The whole decision, from what the parts of the header, the events and the areas told.
 pub laid : (l bs : List ℕ) (h : Header) {form : Form} {n : ℕ} {t q r : Bool} → form ≡ form_in h → n ≡ header_size (form_in h) → t ≡ (eqb h.version 1 || eqb h.version 2)
     → q ≡ areas_ok h (length l) → bs ≡ event_bytes h l → r ≡ every event_ok (entries form bs) → all (leb n (length l) ∷ t ∷ leb h.call 15 ∷ q ∷ r ∷ []) ≡ laid_out h l

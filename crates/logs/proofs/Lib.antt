@@ -2,4 +2,3 @@
 pub mod Layouts
 pub mod Forms
 pub mod Copying
-pub mod Walking

@@ -1,7 +1,7 @@
 -- Laws of adding: two texts, one behind the other, are one; nothing is added by nothing.
 use Prim.Native.Nat.{ℕ, ◌+◌, ◌≤◌}
 use native.Mathlib.Omega.{arith}
-use mathlib.Core.List.{List, [], ◌++◌, append-nil}
+use mathlib.Core.List.{List, [], ◌++◌}
 use mathlib.Core.Path.{◌≡◌, ◌∙◌, ap, subst}
 use lib.ListN.{length, length-append, length-drop}
 use lib.Seq.{length-take-le}

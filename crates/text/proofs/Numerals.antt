@@ -2,7 +2,7 @@
 use Prim.Native.Nat.{ℕ, zero, suc, ◌+◌, ◌-◌, ◌*◌, ◌/◌, ◌%◌, ◌^◌, ◌≤◌, ◌<◌}
 use native.Mathlib.Numerals.{add-one}
 use native.Mathlib.Omega.{arith}
-use mathlib.Core.Bool.{Bool, true, false, cond, not}
+use mathlib.Core.Bool.{Bool, true, false, cond}
 use mathlib.Core.List.{List, [], ◌∷◌, ◌++◌, append_assoc}
 use mathlib.Core.Path.{◌≡◌, refl, sym, ◌∙◌, ap}
 use lib.Dec.{leb, ltb}
@@ -138,14 +138,6 @@ pub some_bytes : (n digits : ℕ) → (n ≡ 0 → ⊥) → digits + 3 + shown n
 some_bytes zero digits h = absurd (h refl)
 some_bytes (suc n) digits h = omega arith
 
-not-false : (b : Bool) → not b ≡ false → b ≡ true
-not-false true e = refl
-not-false false e = sym e
-
-not-true : (b : Bool) → not b ≡ true → b ≡ false
-not-true true e = sym e
-not-true false e = refl
-
 -- Whether a line of these parts fits from index at on, by what `fits` says of the room behind it.
 module _ (word bs : List ℕ) (n at line numbers digits : ℕ) {t : Bool} (ed : digits ≡ length (decimal n))
     (en : numbers + shown (length bs) ≡ digits + 2 + behind (length bs)) (inside : at ≤ line)
@@ -155,13 +147,13 @@ module _ (word bs : List ℕ) (n at line numbers digits : ℕ) {t : Bool} (ed : 
       let same : length bs ≡ 0 + length bs = omega arith in
       ap (λ (k : ℕ). leb (length word + numbers + shown k) (line - at)) same ∙ sym et
 
-  pub item-fits : not t ≡ false → at + (length word + (length (decimal n) + 2 + length (hex_behind bs))) ≤ line
+  pub item-fits : t ≡ true → at + (length word + (length (decimal n) + 2 + length (hex_behind bs))) ≤ line
   item-fits e =
-      omega (arith, leb-true (length word + numbers + shown (length bs)) (line - at) (plainly ∙ not-false t e), behind-length bs)
+      omega (arith, leb-true (length word + numbers + shown (length bs)) (line - at) (plainly ∙ e), behind-length bs)
 
-  pub item-full : not t ≡ true → line < at + length (item word n bs)
+  pub item-full : t ≡ false → line < at + length (item word n bs)
   item-full e =
-      omega (arith, leb-false (length word + numbers + shown (length bs)) (line - at) (plainly ∙ not-true t e), item-length word bs n)
+      omega (arith, leb-false (length word + numbers + shown (length bs)) (line - at) (plainly ∙ e), item-length word bs n)
 
 -- The text's length, by the lengths of its parts.
 pub text-length : (w d : List ℕ) (t e n : ℕ) {x y z k : ℕ} →

@@ -1,5 +1,6 @@
 // Lines of text, written into a lent buffer. Document 01's: "outcome, finishing time, events read, notices, detail" and a newline.
 #![tactic(auto)]
+
 ghost use Rattle.std.specs.Prelude.{◌≡◌, [], ◌∷◌, ◌++◌, ◌+◌, ◌/◌, ◌%◌, ◌<◌, ◌≤◌, leb, length};
 ghost use Rattle.rules.specs.Lines.{digit, decimal, hex, hex_or_dash, spaced};
 ghost use Rattle.text.specs.Written.{Put, Wrote, Appended, text, counted, shown, room, behind, hex_behind, item};

@@ -10,4 +10,4 @@ use Rattle.bench_line.proofs.put_words.Goals as goal
 pub returns : goal.returns
 returns c =
     let at : 0 + length c.args.words.now ≡ length c.args.words.now = omega arith in
-    subst (λ (n : ℕ). Put c.args.line.now 0 c.args.words.now c.copy_into.new.0 n) at (copied c.copy_into.ensures (omega (arith, c.requires)))
+    subst (λ (n : ℕ). Put c.args.line.now 0 c.args.words.now c.copy_into.new.buffer n) at (copied c.copy_into.ensures (omega (arith, c.requires)))

@@ -1,18 +1,11 @@
 -- `bench_line::read_hex` meets its contract: the bytes of i pairs stand at the front.
-use Prim.Native.Nat.{ℕ, ◌+◌, ◌-◌, ◌*◌, ◌/◌, ◌≤◌, ◌<◌}
+use Prim.Native.Nat.{◌+◌, ◌-◌, ◌*◌, ◌<◌}
 use native.Mathlib.Omega.{arith}
-use mathlib.Core.List.{List}
-use mathlib.Core.Path.{◌≡◌, refl}
-use lib.ListN.{length, take, length-set}
-use Rattle.bench.specs.Talk.{is_hex_digit, nibble, unhex}
+use mathlib.Core.Path.{refl}
+use lib.ListN.{length, length-set}
+use Rattle.bench.specs.Talk.{is_hex_digit, nibble}
 use Rattle.bench_line.proofs.Reading.{each, pair-more, pairs-done}
 use Rattle.bench_line.proofs.read_hex.Goals as goal
-
-record Held (digits request₀ : List ℕ) (n : ℕ) (request : List ℕ) (i : ℕ) : Type 0 where
-  inside : i ≤ n
-  half : n ≡ length digits / 2
-  same_length : length request ≡ length request₀
-  read : take i request ≡ unhex (take (i * 2) digits)
 
 pub loop-i-init : goal.loop-i-init
 loop-i-init c = record { inside = omega arith; half = refl; shape_of-request = refl; read = refl }

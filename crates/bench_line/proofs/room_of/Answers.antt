@@ -1,21 +1,13 @@
 -- `bench_line::room_of` meets its contract: i digits are read.
-use Prim.Native.Nat.{ℕ, ◌+◌, ◌-◌, ◌*◌, ◌≤◌}
+use Prim.Native.Nat.{ℕ, ◌+◌, ◌-◌, ◌*◌}
 use native.Mathlib.Omega.{arith}
-use mathlib.Core.List.{List}
-use mathlib.Core.Path.{◌≡◌, refl, sym, ◌∙◌, ap}
+use mathlib.Core.Path.{refl, sym, ◌∙◌, ap}
 use borrow.Author.Tests.{not-true, not-false}
-use lib.ListN.{length, get_or, drop}
-use Rattle.rules.specs.Bytes.{every}
+use lib.ListN.{get_or, drop}
 use Rattle.bench.specs.Talk.{is_digit, number_from}
 use Rattle.bench_line.proofs.Digits.{digit-range}
 use Rattle.bench_line.proofs.Reading.{one-fails, one_passes, none_left, too_few, too_many, no_number, too_large, a-number, digit-more, digits-done, already-large}
 use Rattle.bench_line.proofs.room_of.Goals as goal
-
-record Held (number : List ℕ) (value i : ℕ) : Type 0 where
-  inside : i ≤ length number
-  small : value ≤ 4095
-  digits : every is_digit (drop i number) ≡ every is_digit number
-  read : number_from value (drop i number) ≡ number_from 0 number
 
 pub returns-then-number-lt1 : goal.returns-then-number-lt1
 returns-then-number-lt1 c = too_few c.args.number.now c.if-number-lt1.true

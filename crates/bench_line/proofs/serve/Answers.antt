@@ -15,18 +15,18 @@ slice_bounds-respond-end c =
 
 pub slice_bounds-part-end : goal.slice_bounds-part-end
 slice_bounds-part-end c =
-    sym (length_front c.zeros-buffer.result c.respond-response.new.1.1.0 c.args.room c.respond-response.auto.1.1.0 ∙ zeros-long c.zeros-buffer.ensures)
+    sym (length_front c.zeros-buffer.result c.respond-response.new.reply c.args.room c.respond-response.auto.reply ∙ zeros-long c.zeros-buffer.ensures)
 
 pub tell-requires : goal.tell-requires
 tell-requires c =
     let long = zeros-long c.zeros-buffer.ensures in
     let back = c.part.ensures ∙
-    lent_back c.respond-response.new.1.1.0 c.zeros-buffer.result c.args.room long c.requires.0 c.respond-response.auto.1.1.0 in
-    (omega (arith, ap (λ (k : List ℕ). length k) back, c.respond-response.auto.1.1.0, length-take c.args.room c.zeros-buffer.result, c.requires.0), omega (arith, c.requires.1))
+    lent_back c.respond-response.new.reply c.zeros-buffer.result c.args.room long c.requires.0 c.respond-response.auto.reply in
+    (omega (arith, ap (λ (k : List ℕ). length k) back, c.respond-response.auto.reply, length-take c.args.room c.zeros-buffer.result, c.requires.0), omega (arith, c.requires.1))
 
 pub returns : goal.returns
 returns c =
     let long = zeros-long c.zeros-buffer.ensures in
     let back = c.part.ensures ∙
-    lent_back c.respond-response.new.1.1.0 c.zeros-buffer.result c.args.room long c.requires.0 c.respond-response.auto.1.1.0 in
+    lent_back c.respond-response.new.reply c.zeros-buffer.result c.args.room long c.requires.0 c.respond-response.auto.reply in
     served c.zeros-buffer.ensures c.requires.0 c.respond-response.ensures back c.tell.ensures

@@ -26,7 +26,7 @@ returns-in-Replied c =
     let written = hex-length c.part.result.now in
     let front = ap (λ (k : List ℕ). length k) c.part.ensures in
     let Some-of = length-take c.in-Replied.n (drop 0 c.args.buffer.now) in
-    let room : c.put_hex-m.result + 1 ≤ length c.put_hex-m.new.0 = omega (arith, front, Some-of, written, c.put_hex-m.ensures.next, c.put_hex-m.auto.0, c.requires) in
+    let room : c.put_hex-m.result + 1 ≤ length c.put_hex-m.new.line = omega (arith, front, Some-of, written, c.put_hex-m.ensures.next, c.put_hex-m.auto.line, c.requires) in
     let both = then (omega (arith, front, Some-of, written, c.put_hex-m.ensures.next, c.requires)) c.put_hex-m.ensures (copied c.copy_into.ensures room) in
     rw c.in-Replied.is (rw c.part.ensures at both)
 

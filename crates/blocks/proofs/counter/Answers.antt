@@ -18,6 +18,6 @@ returns-then-k-data c = sym (refuses-number _ _ _ (omega arith) (beyond _ _ _ (o
 pub returns : goal.returns
 returns c =
     let k = c.args.k in
-    let sent = c.wrapping_add_u8.ensures ∙ mod-add-mod k 256 1 in
+    let sent = c.wrapping_add_u8.ensures.value ∙ mod-add-mod k 256 1 in
     let begins = within _ _ _ (omega arith) (omega arith) c.if-k-data.false in
     ap Counter sent ∙ sym (accepts _ _ _ (omega arith) begins)

@@ -79,7 +79,7 @@ returns-else-longer-book c =
     let counted = subst (CountsAt log) c.in-At.is c.counted_at.ensures in
     let taken : take (length old) z ≡ old = ap (λ (l : List ℕ). take (length l) z) c.part-old.ensures ∙ take-taken x.n z ∙ sym
     c.part-old.ensures in
-    let book : c.insert.new.0 ≡ with z 0 (book_of (logs_in old ++ (log ∷ []))) = c.insert.ensures ∙ ap (λ (l : List ℕ). with z 0
+    let book : c.insert.new.book ≡ with z 0 (book_of (logs_in old ++ (log ∷ []))) = c.insert.ensures ∙ ap (λ (l : List ℕ). with z 0
     (book_of (logs_in l ++ (log ∷ [])))) taken in
     let raised = c.raise.ensures ∙ ap (λ (p : ℕ). raised_at x.summary.now p) counted.1 in
     let number = c.count_of-number.ensures ∙ ap (λ (c : ℕ). length (of_call c (logs_in old))) c.call_in-call.ensures in

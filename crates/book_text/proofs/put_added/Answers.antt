@@ -8,16 +8,10 @@ use Rattle.text.specs.Written.{Put, counted}
 use Rattle.rules.specs.Lines.{ascii, decimal}
 use lib.ListN.{length, get_or}
 use mathlib.Core.Path.{refl}
-use mathlib.Core.List.{◌∷◌, ◌++◌, append_assoc}
+use mathlib.Core.List.{[], ◌∷◌, ◌++◌, append_assoc}
 use Prim.Native.Nat.{◌+◌, ◌≤◌, ◌<◌}
 use borrow.Author.Tests.{le-leb, lt-leb}
 use Rattle.book_text.proofs.put_added.Goals as goal
-
-short-call : (s : goal.Start) → length (decimal s.args.entry.call) ≤ 5
-short-call s = five-digits s.args.entry.call (omega arith)
-
-short-number : (s : goal.Start) → length (decimal s.args.entry.number) ≤ 20
-short-number s = twenty-digits s.args.entry.number (omega arith)
 
 pub returns-then-text-lt-SHORT : goal.returns-then-text-lt-SHORT
 returns-then-text-lt-SHORT c = rw (lt-leb 200 (length c.args.text.now) c.if-text-lt-SHORT.true) (refl, refl)
@@ -29,23 +23,27 @@ returns-then-summary-gt-COUNTERS c =
 
 pub put_byte-c-requires : goal.put_byte-c-requires
 put_byte-c-requires c =
+    let short-call : length (decimal c.args.entry.call) ≤ 5 = five-digits c.args.entry.call (omega arith) in
+    let short-number : length (decimal c.args.entry.number) ≤ 20 = twenty-digits c.args.entry.number (omega arith) in
     let x = c.args in
     let e = x.entry in
-    let d = short-call c.before.before.before.before.before.before.before.before.before.before.before.before.before.before.before.before in
-    let f = short-number c.before.before.before.before.before.before.before.before.before.before.before.before.before.before.before.before in
+    let d = short-call in
+    let f = short-number in
     let p = was-put (counted (ascii "added") e.call) x.text.now 0 (omega (arith, c.if-text-lt-SHORT.false, d)) c.put_counted-a.ensures in
-    let q = was-put (counted [] e.number) c.put_counted-a.new.0 c.put_counted-a.result (omega
+    let q = was-put (counted [] e.number) c.put_counted-a.new.line c.put_counted-a.result (omega
     (arith, c.if-text-lt-SHORT.false, c.text-1.given, p.next, d, f)) c.put_counted-b.ensures in
     omega (arith, p.next, q.next, d, f, c.if-text-lt-SHORT.false, c.text-1.given, c.text-2-1.given)
 
 pub put_counter-requires : goal.put_counter-requires
 put_counter-requires c =
+    let short-call : length (decimal c.args.entry.call) ≤ 5 = five-digits c.args.entry.call (omega arith) in
+    let short-number : length (decimal c.args.entry.number) ≤ 20 = twenty-digits c.args.entry.number (omega arith) in
     let x = c.args in
     let e = x.entry in
-    let d = short-call c.before.before.before.before.before.before.before.before.before.before.before.before.before.before.before.before.before.before.before.before.before in
-    let f = short-number c.before.before.before.before.before.before.before.before.before.before.before.before.before.before.before.before.before.before.before.before.before in
+    let d = short-call in
+    let f = short-number in
     let p = was-put (counted (ascii "added") e.call) x.text.now 0 (omega (arith, c.if-text-lt-SHORT.false, d)) c.put_counted-a.ensures in
-    let q = was-put (counted [] e.number) c.put_counted-a.new.0 c.put_counted-a.result (omega
+    let q = was-put (counted [] e.number) c.put_counted-a.new.line c.put_counted-a.result (omega
     (arith, c.if-text-lt-SHORT.false, c.text-1.given, p.next, d, f)) c.put_counted-b.ensures in
     let there : 0 < c.number_at.result → e.place < 4176 = λ h. omega (
       arith,
@@ -70,17 +68,19 @@ put_counter-requires c =
 
 pub returns : goal.returns
 returns c =
+    let short-call : length (decimal c.args.entry.call) ≤ 5 = five-digits c.args.entry.call (omega arith) in
+    let short-number : length (decimal c.args.entry.number) ≤ 20 = twenty-digits c.args.entry.number (omega arith) in
     let x = c.args in
     let e = x.entry in
-    let d = short-call c.before.before.before.before.before.before.before.before.before.before.before.before.before.before.before.before.before.before.before.before.before.before.before.before in
-    let f = short-number c.before.before.before.before.before.before.before.before.before.before.before.before.before.before.before.before.before.before.before.before.before.before.before.before in
+    let d = short-call in
+    let f = short-number in
     let c1 = counted (ascii "added") e.call in
     let c2 = counted [] e.number in
     let p = was-put c1 x.text.now 0 (omega (arith, c.if-text-lt-SHORT.false, d)) c.put_counted-a.ensures in
-    let q = was-put c2 c.put_counted-a.new.0 c.put_counted-a.result (omega
+    let q = was-put c2 c.put_counted-a.new.line c.put_counted-a.result (omega
     (arith, c.if-text-lt-SHORT.false, c.text-1.given, p.next, d, f)) c.put_counted-b.ensures in
     let line = counter_line e.place (get_or x.summary.now e.place 0) in
-    let r : Put c.put_byte-c.new.0 c.put_byte-c.result line c.put_counter.new.0
+    let r : Put c.put_byte-c.new.text c.put_byte-c.result line c.put_counter.new.text
     c.put_counter.result = rw c.number_at.ensures at c.put_counter.ensures.put in
     let two = then (omega (arith, p.next, d, c.if-text-lt-SHORT.false)) p q in
     let three = then (omega (arith, p.next, q.next, d, f, c.if-text-lt-SHORT.false)) two c.put_byte-c.ensures in

@@ -9,7 +9,7 @@ put_call-a-requires c = (c.requires.0, omega (arith, c.requires.1))
 pub put_byte-requires : goal.put_byte-requires
 put_byte-requires c =
     let x = c.args in
-    let end = before-newline x.text.now c.put_call-a.new.0 c.put_counted-b.new.0 c.put_counted-b.new.0
+    let end = before-newline x.text.now c.put_call-a.new.text c.put_counted-b.new.line c.put_counted-b.new.line
     x.word.now x.at x.call x.number c.put_call-a.result c.put_counted-b.result 0 c.requires.0 (omega arith)
     c.requires.1 c.put_call-a.ensures (omega (arith, c.text-1.given)) c.put_counted-b.ensures in
     omega (arith, end, c.requires.1, c.text-1.given, c.text-2-1.given)
@@ -17,10 +17,10 @@ put_byte-requires c =
 pub returns : goal.returns
 returns c =
     let x = c.args in
-    let end = before-newline x.text.now c.put_call-a.new.0 c.put_counted-b.new.0 c.put_counted-b.new.0
+    let end = before-newline x.text.now c.put_call-a.new.text c.put_counted-b.new.line c.put_counted-b.new.line
     x.word.now x.at x.call x.number c.put_call-a.result c.put_counted-b.result 0 c.requires.0 (omega arith)
     c.requires.1 c.put_call-a.ensures (omega (arith, c.text-1.given)) c.put_counted-b.ensures in (
-      row x.text.now c.put_call-a.new.0 c.put_counted-b.new.0 c.put_byte.new.0 x.word.now x.at
+      row x.text.now c.put_call-a.new.text c.put_counted-b.new.line c.put_byte.new.text x.word.now x.at
           x.call x.number c.put_call-a.result c.put_counted-b.result c.put_byte.result c.requires.0
           (omega arith) c.requires.1 c.put_call-a.ensures (omega (arith, c.text-1.given)) c.put_counted-b.ensures (omega
           (arith, c.text-1.given, c.text-2-1.given)) c.put_byte.ensures,

@@ -43,4 +43,5 @@ returns-in-Directed c =
 
 pub returns-in_default : goal.returns-in_default
 returns-in_default c =
-    ends-unreadable c.args.reader.phase c.in_default.keys9
+    let d = c.in_default in
+    ends-unreadable c.args.reader.phase d.not-Start d.not-Blanks d.not-Data d.not-Remote d.not-Fd d.not-Behind d.not-Spaced d.not-Directed

@@ -8,4 +8,4 @@ unfolding hopeless
 returns-in-Bad c = rw c.in-Bad.is
 
 pub returns-in_default : goal.returns-in_default
-returns-in_default c = some-hope c.args.reader.phase c.in_default.keys2
+returns-in_default c = some-hope c.args.reader.phase c.in_default.not-Bad

@@ -1,5 +1,4 @@
 -- `candump::identifier` meets its contract.
-use Prim.Native.Nat.{◌-◌}
 use native.Mathlib.Omega.{arith}
 use Rattle.candump.proofs.Words.{none_read, one-read, too_long, none_named, one-named}
 use Rattle.candump.proofs.identifier.Goals as goal

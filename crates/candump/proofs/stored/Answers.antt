@@ -9,5 +9,4 @@ returns-in-Half c =
     rw (c.in-Half.is, c.worth.ensures.0)
 
 pub returns-in_default : goal.returns-in_default
-returns-in_default c =
-    nothing_stored c.args.phase c.args.bytes c.args.c c.in_default.keys2
+returns-in_default c = nothing_stored c.args.phase c.args.bytes c.args.c c.in_default.not-Half

@@ -15,59 +15,64 @@ use Rattle.captured.specs.Capture.{is_call}
 use Rattle.captured.proofs.Putting.{no_call, too_long, Recounts, recounts, places, written}
 use Rattle.captured.proofs.capture.Goals as goal
 
-abbrev start : goal.After-is_call → goal.Start
-start c = c.before.before.before.before
-
--- What was recounted is the header of the call.
-recount-is : (c : goal.After-recount) → let x = (start c.before.before.before.before).args in
-    Recounted.header_of c.recount.result ≡ recounted (header_of x.call.now) (length (entries plain x.events.now)) (length x.replies.now)
-recount-is c =
-    let x = (start read.before.before).args in
-    let bs = x.events.now in
-    let n = c.event_count.ensures ∙ sym (entries-length plain bs (length bs / 10) 0) in
-    let old = c.read_header-old.ensures in
-    c.recount.ensures ∙ (λ i. recounted (old i) (n i) (length x.replies.now))
-
--- It is a call.
-sound : (c : goal.Else-not-is_call) → is_call (start c.before).args.call.now ≡ true
-sound c = sym c.is_call.ensures ∙ not-false _ c.if-not-is_call.false-raw
-
--- The arguments are those of the call.
-arguments : (c : goal.After-read_area-arguments) → let x = (start c.before.before.before.before.before.before.before.before.before.before).args in
-    c.read_area-arguments.result.now ≡ argument_bytes (header_of x.call.now) x.call.now
-arguments c =
-    let x = (start read.before.before).args in
-    c.read_area-arguments.ensures ∙ ap (λ (g : Header). argument_bytes g x.call.now) c.read_header-old.ensures
-
-new_is : (c : goal.After-read_area-arguments) → let x = (start told.before.before.before.before.before.before).args in
-    Recounts x.call.now (entries plain x.events.now) x.replies.now x.out.now (sound c.before.before.before.before.before.before.before.before.before) (said c.in-Header.new)
-new_is c =
-    let x = (start tried.before.before.before.before).args in
-    recounts x.call.now (entries plain x.events.now) x.replies.now x.out.now (sound c.before.before.before.before.before.before.before.before.before)
-    (ap Recounted.header_of (sym c.in-Header.is) ∙ recount-is c.before.before.before.before.before.before)
-
 pub returns-then-not-is_call : goal.returns-then-not-is_call
 returns-then-not-is_call c =
-    let x = (start c.before).args in
+    let x = c.args in
     no_call x.call.now (entries plain x.events.now) x.replies.now x.out.now (sym c.is_call.ensures ∙ not-true _ c.if-not-is_call.true-raw)
 
 pub put_log-requires : goal.put_log-requires
 put_log-requires c =
-    let x = (start area.before.before.before.before.before.before.before.before.before.before).args in
-    rw (arguments c.before)
-    (places x.call.now (entries plain x.events.now) x.replies.now x.out.now (sound c.before.before.before.before.before.before.before.before.before.before) (new_is c.before))
+    -- What was recounted is the header of the call.
+    let recount-is : let x = c.args in Recounted.header_of c.recount.result ≡ recounted (header_of x.call.now) (length (entries plain x.events.now)) (length x.replies.now) = let x = c.args in
+        let bs = x.events.now in
+        let n = c.event_count.ensures ∙ sym (entries-length plain bs (length bs / 10) 0) in
+        let old = c.read_header-old.ensures in
+        c.recount.ensures ∙ (λ i. recounted (old i) (n i) (length x.replies.now)) in
+    -- It is a call.
+    let sound : is_call c.args.call.now ≡ true = sym c.is_call.ensures ∙ not-false _ c.if-not-is_call.false-raw in
+    -- The arguments are those of the call.
+    let arguments : let x = c.args in c.read_area-arguments.result.now ≡ argument_bytes (header_of x.call.now) x.call.now = let x = c.args in
+        c.read_area-arguments.ensures ∙ ap (λ (g : Header). argument_bytes g x.call.now) c.read_header-old.ensures in
+    let new_is : let x = c.args in Recounts x.call.now (entries plain x.events.now) x.replies.now x.out.now sound (said c.in-Header.new) = let x = c.args in
+        recounts x.call.now (entries plain x.events.now) x.replies.now x.out.now sound
+        (ap Recounted.header_of (sym c.in-Header.is) ∙ recount-is) in
+    let x = c.args in
+    rw arguments
+    (places x.call.now (entries plain x.events.now) x.replies.now x.out.now sound new_is)
 
 pub overflow_cast-result : goal.overflow_cast-result
 overflow_cast-result c = omega (arith, c.struct_known-in-Header-2-1.given)
 
 pub returns-in-TooLong : goal.returns-in-TooLong
 returns-in-TooLong c =
-    let x = (start tried.before.before.before.before).args in
-    too_long x.call.now (entries plain x.events.now) x.replies.now x.out.now (sound c.before.before.before.before.before)
-    (ap Recounted.header_of (sym c.in-TooLong.is) ∙ recount-is c.before.before)
+    -- What was recounted is the header of the call.
+    let recount-is : let x = c.args in Recounted.header_of c.recount.result ≡ recounted (header_of x.call.now) (length (entries plain x.events.now)) (length x.replies.now) = let x = c.args in
+        let bs = x.events.now in
+        let n = c.event_count.ensures ∙ sym (entries-length plain bs (length bs / 10) 0) in
+        let old = c.read_header-old.ensures in
+        c.recount.ensures ∙ (λ i. recounted (old i) (n i) (length x.replies.now)) in
+    -- It is a call.
+    let sound : is_call c.args.call.now ≡ true = sym c.is_call.ensures ∙ not-false _ c.if-not-is_call.false-raw in
+    let x = c.args in
+    too_long x.call.now (entries plain x.events.now) x.replies.now x.out.now sound
+    (ap Recounted.header_of (sym c.in-TooLong.is) ∙ recount-is)
 
 pub returns-in-Header : goal.returns-in-Header
 returns-in-Header c =
-    let x = (start area.before.before.before.before.before.before.before.before.before.before).args in
-    written x.call.now (entries plain x.events.now) x.replies.now x.out.now (sound c.before.before.before.before.before.before.before.before.before.before.before.before) (new_is c.before.before.before) refl
-    (rw (arguments c.before.before.before) at c.put_log.ensures)
+    -- What was recounted is the header of the call.
+    let recount-is : let x = c.args in Recounted.header_of c.recount.result ≡ recounted (header_of x.call.now) (length (entries plain x.events.now)) (length x.replies.now) = let x = c.args in
+        let bs = x.events.now in
+        let n = c.event_count.ensures ∙ sym (entries-length plain bs (length bs / 10) 0) in
+        let old = c.read_header-old.ensures in
+        c.recount.ensures ∙ (λ i. recounted (old i) (n i) (length x.replies.now)) in
+    -- It is a call.
+    let sound : is_call c.args.call.now ≡ true = sym c.is_call.ensures ∙ not-false _ c.if-not-is_call.false-raw in
+    -- The arguments are those of the call.
+    let arguments : let x = c.args in c.read_area-arguments.result.now ≡ argument_bytes (header_of x.call.now) x.call.now = let x = c.args in
+        c.read_area-arguments.ensures ∙ ap (λ (g : Header). argument_bytes g x.call.now) c.read_header-old.ensures in
+    let new_is : let x = c.args in Recounts x.call.now (entries plain x.events.now) x.replies.now x.out.now sound (said c.in-Header.new) = let x = c.args in
+        recounts x.call.now (entries plain x.events.now) x.replies.now x.out.now sound
+        (ap Recounted.header_of (sym c.in-Header.is) ∙ recount-is) in
+    let x = c.args in
+    written x.call.now (entries plain x.events.now) x.replies.now x.out.now sound new_is refl
+    (rw arguments at c.put_log.ensures)

@@ -12,22 +12,6 @@ use Rattle.captured.specs.Capture.{from}
 use Rattle.captured.proofs.Putting.{first, none-put, next-put}
 use Rattle.captured.proofs.put_events.Goals as goal
 
--- There is room for all of them.
-room : (c : goal.After-event_size-size → let x = c.args in
-    x.at + c.event_count-n.result * event_size (form_of x.form) ≤ length x.out.now
-room c =
-    let x = c.args in
-    let bs = x.events.now in
-    let n = c.event_count-n.ensures ∙ sym (entries-length plain bs (length bs / 10) 0) in
-    rw n c.requires
-
--- In a turn: the next event is among them.
-turn : (c : goal.In-loop-i → let x = c.args in
-    x.at + (c.loop-i.i + 1) * event_size (form_of x.form) ≤ length x.out.now
-turn c =
-    let x = c.args in
-    omega (arith, room c.before.before, fewer_bytes (form_of x.form) (c.loop-i.i + 1) c.event_count-n.result (omega arith))
-
 pub loop-i-init : goal.loop-i-init
 loop-i-init c =
     let x = c.args in
@@ -35,11 +19,27 @@ loop-i-init c =
 
 pub overflow_mul-i : goal.overflow_mul-i
 overflow_mul-i c =
-    rw c.event_size-size.ensures (omega (arith, turn c.before.before.before))
+    -- There is room for all of them.
+    let room : let x = c.args in x.at + c.event_count-n.result * event_size (form_of x.form) ≤ length x.out.now = let x = c.args in
+        let bs = x.events.now in
+        let n = c.event_count-n.ensures ∙ sym (entries-length plain bs (length bs / 10) 0) in
+        rw n c.requires in
+    -- In a turn: the next event is among them.
+    let turn : let x = c.args in x.at + (c.loop-i.i + 1) * event_size (form_of x.form) ≤ length x.out.now = let x = c.args in
+        omega (arith, room, fewer_bytes (form_of x.form) (c.loop-i.i + 1) c.event_count-n.result (omega arith)) in
+    rw c.event_size-size.ensures (omega (arith, turn))
 
 pub overflow_add-at : goal.overflow_add-at
 overflow_add-at c =
-    rw c.event_size-size.ensures (omega (arith, turn c.before.before.before))
+    -- There is room for all of them.
+    let room : let x = c.args in x.at + c.event_count-n.result * event_size (form_of x.form) ≤ length x.out.now = let x = c.args in
+        let bs = x.events.now in
+        let n = c.event_count-n.ensures ∙ sym (entries-length plain bs (length bs / 10) 0) in
+        rw n c.requires in
+    -- In a turn: the next event is among them.
+    let turn : let x = c.args in x.at + (c.loop-i.i + 1) * event_size (form_of x.form) ≤ length x.out.now = let x = c.args in
+        omega (arith, room, fewer_bytes (form_of x.form) (c.loop-i.i + 1) c.event_count-n.result (omega arith)) in
+    rw c.event_size-size.ensures (omega (arith, turn))
 
 pub overflow_add-i : goal.overflow_add-i
 overflow_add-i c = omega arith
@@ -49,10 +49,18 @@ loop-i-smaller c = omega arith
 
 pub loop-i-preserved : goal.loop-i-preserved
 loop-i-preserved c =
+    -- There is room for all of them.
+    let room : let x = c.args in x.at + c.event_count-n.result * event_size (form_of x.form) ≤ length x.out.now = let x = c.args in
+        let bs = x.events.now in
+        let n = c.event_count-n.ensures ∙ sym (entries-length plain bs (length bs / 10) 0) in
+        rw n c.requires in
+    -- In a turn: the next event is among them.
+    let turn : let x = c.args in x.at + (c.loop-i.i + 1) * event_size (form_of x.form) ≤ length x.out.now = let x = c.args in
+        omega (arith, room, fewer_bytes (form_of x.form) (c.loop-i.i + 1) c.event_count-n.result (omega arith)) in
     let l = c.loop-i in
     let x = c.args in (
       omega arith,
-      next-put (form_of x.form) x.source x.events.now x.out.now l.out c.put_event.new.0 x.at l.i (turn c.before.before.before.before.before.before)
+      next-put (form_of x.form) x.source x.events.now x.out.now l.out c.put_event.new.buffer x.at l.i turn
           (c.sent_from-event.ensures ∙ ap (from x.source) c.event_at.ensures) l.invariant.1 (rw c.event_size-size.ensures at c.put_event.ensures),
     )
 

@@ -1,7 +1,7 @@
 -- `put_log` meets its contract.
-use Prim.Native.Nat.{ℕ, ◌+◌, ◌≤◌}
+use Prim.Native.Nat.{◌+◌, ◌≤◌}
 use native.Mathlib.Omega.{arith}
-use mathlib.Core.List.{List, map}
+use mathlib.Core.List.{map}
 use mathlib.Core.Path.{◌≡◌}
 use lib.ListN.{length}
 use borrow.Author.Rules.{rules}
@@ -15,42 +15,31 @@ use Rattle.captured.proofs.Written.{put-long}
 use Rattle.captured.proofs.Putting.{last-put, all-put}
 use Rattle.captured.proofs.put_log.Goals as goal
 
--- The events, and where each part stands.
-abbrev events : goal.Start → List ℕ
-events s = put_entries (form_in (said s.args.h)) (map (from s.args.h.listens) (entries plain s.args.events.now))
-
-behind-header : (s : goal.Start) → s.args.h.arguments_at ≡ 0 + length (put_header (said s.args.h))
-behind-header s = omega (arith, s.requires.arguments, writing.header-long (said s.args.h))
-
-behind-arguments : (s : goal.Start) → s.args.h.events_at ≡ s.args.h.arguments_at + length s.args.arguments.now
-behind-arguments s = omega (arith, s.requires.arguments, s.requires.events)
-
-behind-events : (s : goal.Start) → s.args.h.replies_at ≡ s.args.h.events_at + length (events s)
-behind-events s =
-    omega (arith, s.requires.events, s.requires.replies, put-long (form_in (said s.args.h)) s.args.h.listens (entries plain s.args.events.now))
-
-abbrev start : goal.After-copy_into → goal.Start
-start c = c.before.before.before.before.before.before.before.before
-
-whole : (c : goal.After-copy_into) → length (start c).args.out.now ≡ 65535
-whole c = search (rules, c.copy_into-arg-1.given)
-
-room : (c : goal.After-copy_into) → let s = start c in s.args.h.replies_at + length s.args.replies.now ≤ length s.args.out.now
-room c = let s = start c in omega (arith, s.pre.replies, s.pre.end, whole c)
-
 pub put_events-requires : goal.put_events-requires
 put_events-requires c =
-    let s = start c.before.before in
-    let x = s.args in
+    -- The events, and where each part stands.
+    let events = put_entries (form_in (said c.args.h)) (map (from c.args.h.listens) (entries plain c.args.events.now)) in
+    let behind-header : c.args.h.arguments_at ≡ 0 + length (put_header (said c.args.h)) = omega (arith, c.requires.arguments, writing.header-long (said c.args.h)) in
+    let behind-arguments : c.args.h.events_at ≡ c.args.h.arguments_at + length c.args.arguments.now = omega (arith, c.requires.arguments, c.requires.events) in
+    let behind-events : c.args.h.replies_at ≡ c.args.h.events_at + length events = omega (arith, c.requires.events, c.requires.replies, put-long (form_in (said c.args.h)) c.args.h.listens (entries plain c.args.events.now)) in
+    let whole : length c.args.out.now ≡ 65535 = search (rules, c.copy_into-arg-1.given) in
+    let room : c.args.h.replies_at + length c.args.replies.now ≤ length c.args.out.now = omega (arith, c.requires.replies, c.requires.end, whole) in
+    let x = c.args in
     let same =
-    last-put x.out.now (put_header (said x.h)) x.arguments.now (events s) x.replies.now x.h.arguments_at x.h.events_at x.h.replies_at
-    (behind-header s) (behind-arguments s) (behind-events s) (room c.before.before) c.copy_into.ensures in
-    rw c.form_in.ensures (omega (arith, same, whole c.before.before, s.pre.events, s.pre.end))
+    last-put x.out.now (put_header (said x.h)) x.arguments.now events x.replies.now x.h.arguments_at x.h.events_at x.h.replies_at
+    behind-header behind-arguments behind-events room c.copy_into.ensures in
+    rw c.form_in.ensures (omega (arith, same, whole, c.requires.events, c.requires.end))
 
 pub returns : goal.returns
 returns c =
-    let s = start c.before.before.before.before.before.before.before in
-    let x = s.args in
-    all-put x.out.now (put_header (said x.h)) x.arguments.now (events s) x.replies.now x.h.arguments_at x.h.events_at x.h.replies_at
-    (behind-header s) (behind-arguments s) (behind-events s) (room c.before.before.before.before.before.before.before) c.copy_into.ensures
+    -- The events, and where each part stands.
+    let events = put_entries (form_in (said c.args.h)) (map (from c.args.h.listens) (entries plain c.args.events.now)) in
+    let behind-header : c.args.h.arguments_at ≡ 0 + length (put_header (said c.args.h)) = omega (arith, c.requires.arguments, writing.header-long (said c.args.h)) in
+    let behind-arguments : c.args.h.events_at ≡ c.args.h.arguments_at + length c.args.arguments.now = omega (arith, c.requires.arguments, c.requires.events) in
+    let behind-events : c.args.h.replies_at ≡ c.args.h.events_at + length events = omega (arith, c.requires.events, c.requires.replies, put-long (form_in (said c.args.h)) c.args.h.listens (entries plain c.args.events.now)) in
+    let whole : length c.args.out.now ≡ 65535 = search (rules, c.copy_into-arg-1.given) in
+    let room : c.args.h.replies_at + length c.args.replies.now ≤ length c.args.out.now = omega (arith, c.requires.replies, c.requires.end, whole) in
+    let x = c.args in
+    all-put x.out.now (put_header (said x.h)) x.arguments.now events x.replies.now x.h.arguments_at x.h.events_at x.h.replies_at
+    behind-header behind-arguments behind-events room c.copy_into.ensures
     (rw c.form_in.ensures at c.put_events.ensures) c.copy_into-2.ensures c.put_header.ensures

@@ -22,10 +22,10 @@ pub returns-in-Value : goal.returns-in-Value
 returns-in-Value c =
     let x = c.args in
     number_fits (bare x.call) (outcome_of x.replies.now x.outcome) _ (numbered-by x.call c.row_of-n.ensures) _
-    c.before.before.before.before.«data».ensures c.if-n-lt11.false c.if-n-gt12.false _ (sym c.block_length.ensures ∙ c.in-Value.is) (omega arith)
+    c.data.ensures c.if-n-lt11.false c.if-n-gt12.false _ (sym c.block_length.ensures ∙ c.in-Value.is) (omega arith)
 
 pub returns-in-Overflow : goal.returns-in-Overflow
 returns-in-Overflow c =
     let x = c.args in
     number-over (bare x.call) (outcome_of x.replies.now x.outcome) _ (numbered-by x.call c.row_of-n.ensures) _
-    c.before.before.before.«data».ensures c.if-n-lt11.false c.if-n-gt12.false (sym c.block_length.ensures ∙ c.in-Overflow.is)
+    c.data.ensures c.if-n-lt11.false c.if-n-gt12.false (sym c.block_length.ensures ∙ c.in-Overflow.is)

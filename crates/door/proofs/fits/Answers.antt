@@ -8,10 +8,6 @@ use Rattle.logs.specs.Layout.{said}
 use Rattle.door.specs.Door.{is_limit, fits}
 use Rattle.door.proofs.fits.Goals as goal
 
--- The limit passed, seen from behind it.
-passed : (c : goal.Else-not-is_limit) → is_limit c.args.limit ≡ true
-passed c = sym c.is_limit.ensures ∙ not-false _ c.if-not-is_limit.false-raw
-
 pub returns-then-h-gt15 : goal.returns-then-h-gt15
 unfolding fits
 returns-then-h-gt15 c = rw (lt-leb c.args.h.call 15 (omega arith))
@@ -26,16 +22,20 @@ returns-then-not-is_limit c =
 pub returns-then-n-arguments : goal.returns-then-n-arguments
 unfolding fits
 returns-then-n-arguments c =
+    -- The limit passed, seen from behind it.
+    let passed : is_limit c.args.limit ≡ true = sym c.is_limit.ensures ∙ not-false _ c.if-not-is_limit.false-raw in
     let x = c.args in
-    rw (le-leb x.h.call 15 (omega arith), passed c.before, lt-leb x.h.arguments x.n (omega arith))
+    rw (le-leb x.h.call 15 (omega arith), passed, lt-leb x.h.arguments x.n (omega arith))
 
 pub returns-then-h-eq1 : goal.returns-then-h-eq1
 unfolding fits
 returns-then-h-eq1 c =
+    -- The limit passed, seen from behind it.
+    let passed : is_limit c.args.limit ≡ true = sym c.is_limit.ensures ∙ not-false _ c.if-not-is_limit.false-raw in
     let x = c.args in
     rw (
       le-leb x.h.call 15 (omega arith),
-      passed c.before.before.before,
+      passed,
       le-leb x.h.arguments x.n (omega arith),
       eq-eqb (flag 32 (said x.h)) 1 c.if-h-eq1.true,
     )
@@ -43,10 +43,12 @@ returns-then-h-eq1 c =
 pub returns : goal.returns
 unfolding fits
 returns c =
+    -- The limit passed, seen from behind it.
+    let passed : is_limit c.args.limit ≡ true = sym c.is_limit.ensures ∙ not-false _ c.if-not-is_limit.false-raw in
     let x = c.args in
     rw (
       le-leb x.h.call 15 (omega arith),
-      passed c.before.before.before,
+      passed,
       le-leb x.h.arguments x.n (omega arith),
       ne_eqb (flag 32 (said x.h)) 1 c.if-h-eq1.false,
     )

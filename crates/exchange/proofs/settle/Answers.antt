@@ -1,15 +1,10 @@
 -- `exchange::settle` meets its contract.
 use Prim.Native.Nat.{ℕ, ◌-◌, ◌<◌}
 use native.Mathlib.Omega.{arith}
-use mathlib.Core.Option.{Option}
 use mathlib.Core.Path.{refl, subst}
 use Rattle.exchange.proofs.Settling.{held_first, no_more, in-time-as, too-late, next-whole, after-idle, after_on, ends_it}
 use Rattle.exchange.specs.Meaning.{overall_of}
 use Rattle.exchange.proofs.settle.Goals as goal
-
--- The overall timeout, seen from a list with one event more.
-abbrev overall : goal.Else-i-n → Option ℕ
-overall more = overall_of more.args.overall
 
 pub loop-i-init : goal.loop-i-init
 loop-i-init c =
@@ -30,7 +25,9 @@ loop-i-smaller-then-kind_in-eq1 c = omega arith
 
 pub loop-i-preserved-then-kind_in-eq1 : goal.loop-i-preserved-then-kind_in-eq1
 loop-i-preserved-then-kind_in-eq1 c =
-    after-idle (overall c.before.before.before.before.before.before) c.loop-i.invariant c.if-i-n.false c.time_in-time.ensures c.kind_in.ensures c.if-time-state.false c.if-kind_in-eq1.true
+    -- The overall timeout, seen from a list with one event more.
+    let overall = overall_of c.args.overall in
+    after-idle overall c.loop-i.invariant c.if-i-n.false c.time_in-time.ensures c.kind_in.ensures c.if-time-state.false c.if-kind_in-eq1.true
     c.passed-state.ensures
 
 pub event_in-event-requires : goal.event_in-event-requires
@@ -42,7 +39,9 @@ overflow_add-i-else-kind_in-eq1 c = omega arith
 
 pub whole_turn-requires : goal.whole_turn-requires
 whole_turn-requires c =
-    next-whole (overall c.before.before.before.before.before.before) c.loop-i.invariant c.event_in-event.ensures c.if-i-n.false
+    -- The overall timeout, seen from a list with one event more.
+    let overall = overall_of c.args.overall in
+    next-whole overall c.loop-i.invariant c.event_in-event.ensures c.if-i-n.false
 
 pub loop-i-smaller : goal.loop-i-smaller
 loop-i-smaller c = omega arith
@@ -50,10 +49,12 @@ loop-i-smaller c = omega arith
 -- Behind a turn: the event and its turn, with what was read of it before.
 pub loop-i-preserved : goal.loop-i-preserved
 loop-i-preserved c =
+    -- The overall timeout, seen from a list with one event more.
+    let overall = overall_of c.args.overall in
     let here = c.event_in-event.ensures in
     let held = c.loop-i.invariant in
-    after_on (overall c.before.before.before.before.before.before.before.before.before.before) held here c.if-i-n.false c.whole_turn.ensures
-    (in-time-as (overall c.before.before.before.before.before.before.before.before.before.before) held c.time_in-time.ensures here c.if-time-state.false) c.in-On.is
+    after_on overall held here c.if-i-n.false c.whole_turn.ensures
+    (in-time-as overall held c.time_in-time.ensures here c.if-time-state.false) c.in-On.is
 
 pub returns-then-i-n : goal.returns-then-i-n
 returns-then-i-n c =
@@ -61,13 +62,17 @@ returns-then-i-n c =
 
 pub returns-then-time-state : goal.returns-then-time-state
 returns-then-time-state c =
+    -- The overall timeout, seen from a list with one event more.
+    let overall = overall_of c.args.overall in
     let held = c.loop-i.invariant in
-    too-late (overall c.before.before.before.before.before) held refl c.if-i-n.false c.silence-then-time-state.ensures c.under-answer-then-time-state.ensures
+    too-late overall held refl c.if-i-n.false c.silence-then-time-state.ensures c.under-answer-then-time-state.ensures
     (subst (λ (t : ℕ). c.loop-i.state.deadline < t) c.time_in-time.ensures c.if-time-state.true)
 
 pub returns-in-Ends : goal.returns-in-Ends
 returns-in-Ends c =
+    -- The overall timeout, seen from a list with one event more.
+    let overall = overall_of c.args.overall in
     let here = c.event_in-event.ensures in
     let held = c.loop-i.invariant in
-    ends_it (overall c.before.before.before.before.before.before.before.before.before.before.before) held here c.if-i-n.false c.whole_turn.ensures
-    (in-time-as (overall c.before.before.before.before.before.before.before.before.before.before.before) held c.time_in-time.ensures here c.if-time-state.false) c.in-Ends.is c.under-answer-in-Ends.ensures
+    ends_it overall held here c.if-i-n.false c.whole_turn.ensures
+    (in-time-as overall held c.time_in-time.ensures here c.if-time-state.false) c.in-Ends.is c.under-answer-in-Ends.ensures

@@ -22,6 +22,6 @@ returns-in-Nothing c =
 pub returns-in-Message : goal.returns-in-Message
 returns-in-Message c =
     let x = c.args in
-    by-given x.t x.time x.answered x.response.now x.log.now c.log_reply.new.1.1.1.0 (ap start_of c.in-At.is)
+    by-given x.t x.time x.answered x.response.now x.log.now c.log_reply.new.log (ap start_of c.in-At.is)
     (ap (λ (g : Gives). given_of g x.response.now) c.in-Message.is ∙ ap some (sym c.part.ensures))
-    (reply-logged x.t x.time c.in-At.s _ x.log.now c.log_reply.new.1.1.1.0 c.since.ensures c.log_reply.ensures)
+    (reply-logged x.t x.time c.in-At.s _ x.log.now c.log_reply.new.log c.since.ensures c.log_reply.ensures)

@@ -13,7 +13,7 @@ add-t10 c =
     omega (
       arith,
       (fitted start.args.t.events start.args.t.bytes start.args.ms (length start.args.message.now)
-          at-fits2.fits2.ensures at-if1.if1.false).0,
+          at-fits2.fits.ensures at-if1.if1.false).0,
     )
 
 -- left: add-t13 : tie.Need-overflow-add-t13
@@ -24,15 +24,15 @@ add-t13 c =
     omega (
       arith,
       (fitted start.args.t.events start.args.t.bytes start.args.ms (length start.args.message.now)
-          at-fits2.fits2.ensures at-if1.if1.false).1,
+          at-fits2.fits.ensures at-if1.if1.false).1,
     )
 
 pub returns-then-not-fits : goal.returns-then-not-fits
 returns-then-not-fits c =
-    too_much c.args.t c.args.out.now c.requires c.args.ms c.args.message.now c.fits2.ensures
+    too_much c.args.t c.args.out.now c.requires c.args.ms c.args.message.now c.fits.ensures
     c.if-not-fits.true-raw
 
 pub returns : goal.returns
 returns c =
-    reply-told c.args.t c.args.out.now c.requires c.args.ms c.args.message.now c.fits2.ensures
+    reply-told c.args.t c.args.out.now c.requires c.args.ms c.args.message.now c.fits.ensures
     c.if-not-fits.false-raw refl refl c.put_item.ensures

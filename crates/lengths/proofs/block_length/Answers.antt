@@ -1,17 +1,8 @@
 -- `lengths::block_length` meets its contract: what is left to read, read on from v, is the value of all.
-use Prim.Native.Nat.{ℕ, ◌-◌, ◌^◌, ◌≤◌, ◌<◌}
 use native.Mathlib.Omega.{arith}
-use mathlib.Core.List.{List}
-use mathlib.Core.Path.{◌≡◌, refl, sym, ◌∙◌}
-use lib.ListN.{length, drop}
-use Rattle.rules.specs.Bytes.{value, value_from}
+use mathlib.Core.Path.{refl, sym, ◌∙◌}
 use Rattle.lengths.proofs.Values.{one-byte-more, too_much, all_read}
 use Rattle.lengths.proofs.block_length.Goals as goal
-
-record Held (bytes : List ℕ) (v i : ℕ) : Type 0 where
-  small : i ≤ length bytes
-  fits : v < 2 ^ 64
-  left : value_from v (drop i bytes) ≡ value bytes
 
 pub loop-i-init : goal.loop-i-init
 loop-i-init c = record { small = omega arith; fits = omega arith; left = refl }

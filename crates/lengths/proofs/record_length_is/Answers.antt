@@ -1,5 +1,5 @@
 -- `lengths::record_length_is` meets its contract: what is left of the length is compared with the value of the bytes that are left.
-use Prim.Native.Nat.{ℕ, ◌+◌, ◌-◌, ◌*◌, ◌/◌, ◌%◌, ◌≤◌, ◌<◌}
+use Prim.Native.Nat.{ℕ, ◌+◌, ◌-◌, ◌*◌, ◌/◌, ◌%◌, ◌<◌}
 use native.Mathlib.Omega.{arith}
 use mathlib.Core.Bool.{false}
 use mathlib.Core.List.{List}
@@ -11,11 +11,8 @@ use lib.ListN.{take, get_or}
 use lib.Seq.{take_all}
 use Rattle.rules.specs.Bytes.{value}
 use Rattle.lengths.proofs.Values.{ends, decides, goes_on}
+use Rattle.lengths.proofs.record_length_is.Invariants.{Held}
 use Rattle.lengths.proofs.record_length_is.Goals as goal
-
-record Held (size : List ℕ) (length left i : ℕ) : Type 0 where
-  inside : i ≤ ListN.length size
-  same : eqb left (value (take i size)) ≡ eqb length (value size)
 
 -- A turn: the last of the bytes that are left is b.
 module _ (size : List ℕ) (length left i b : ℕ) (h : Held size length left i) (some : 0 < i) (is : b ≡ get_or size (i - 1) 0) (byte : b < 256) where

@@ -29,11 +29,11 @@ loop-turns-preserved c =
     let x = c.args in
     let more =
     subst (λ (n : ℕ). Came n x.ask x.answer (stream_of l.s l.asked l.answered l.out l.log)
-    (stream_of c.read_more-turn.result.stream c.read_more-turn.new.1.1.1.0 c.read_more-turn.new.1.1.1.1.0
-    c.read_more-turn.new.1.1.1.1.1.0 c.read_more-turn.new.1.1.1.1.1.1.0)) l.invariant.1.0 c.read_more-turn.ensures.came in (
+    (stream_of c.read_more-turn.result.stream c.read_more-turn.new.asked c.read_more-turn.new.answered
+    c.read_more-turn.new.out c.read_more-turn.new.log)) l.invariant.1.0 c.read_more-turn.ensures.came in (
       more-came (length x.out.now) x.ask x.answer l.invariant.0 more,
       (
-        c.read_more-turn.auto.1.1.1.1.1.0 ∙ l.invariant.1.0,
+        c.read_more-turn.auto.out ∙ l.invariant.1.0,
         λ z e. sym c.settled.ensures
             ∙ stops c.read_more-turn.result.ended c.settled.result l.turns c.loop-turns-test.true c.turns_left-next.ensures.0
             c.turns_left-next.ensures.1 z e,
@@ -42,7 +42,7 @@ loop-turns-preserved c =
 
 pub shape_of-out : goal.shape_of-out
 shape_of-out c =
-    c.finish-outcome.auto.1.1.1.1.1.0 ∙ c.loop-turns.invariant.1.0
+    c.finish-outcome.auto.out ∙ c.loop-turns.invariant.1.0
 
 pub returns : goal.returns
 returns c =
@@ -51,4 +51,4 @@ returns c =
     all-came (length x.out.now) x.ask x.answer l.ended l.invariant.0
     (λ e. sym (settled-held l.s l.asked l.answered l.out l.log) ∙ l.invariant.1.1 (omega (arith, c.loop-turns-test.false)) e)
     (subst (λ (n : ℕ). Finished (ended n x.ask x.answer (stream_of l.s l.asked l.answered l.out l.log)) c.finish-outcome.result
-    c.finish-outcome.new.1.1.1.1.1.0 c.finish-outcome.new.1.1.1.1.1.1.0) l.invariant.1.0 c.finish-outcome.ensures)
+    c.finish-outcome.new.out c.finish-outcome.new.log) l.invariant.1.0 c.finish-outcome.ensures)

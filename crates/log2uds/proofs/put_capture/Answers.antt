@@ -16,14 +16,14 @@ put_said-requires c =
 pub returns-in-Refused : goal.returns-in-Refused
 returns-in-Refused c =
     let x = c.args in
-    refused-said x.call.now x.outcome x.said.now c.put_outcome.new.1.0 x.out.now x.whole.now x.log.now
+    refused-said x.call.now x.outcome x.said.now c.put_outcome.new.out x.out.now x.whole.now x.log.now
     c.put_outcome.result
     c.put_outcome.ensures c.in-Refused.is
 
 pub returns-in-RefusedAt : goal.returns-in-RefusedAt
 returns-in-RefusedAt c =
     let x = c.args in
-    line-said x.call.now x.outcome x.said.now c.put_outcome-in-RefusedAt.new.1.0 x.out.now x.whole.now x.log.now
+    line-said x.call.now x.outcome x.said.now c.put_outcome-in-RefusedAt.new.out x.out.now x.whole.now x.log.now
     c.put_outcome-in-RefusedAt.result
     c.put_outcome-in-RefusedAt.ensures c.in-RefusedAt.is
 

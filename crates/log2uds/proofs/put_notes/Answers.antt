@@ -28,7 +28,7 @@ pub loop-i-preserved : goal.loop-i-preserved
 loop-i-preserved c =
     let inv = c.loop-i.invariant in (
       one-copied c.loop-i-test.true inv.0 c.put_kept-n.ensures.0 c.put_kept-n.ensures.1 c.keeps-keep.ensures,
-      c.put_kept-n.auto.1.1.0 ∙ inv.1,
+      c.put_kept-n.auto.out ∙ inv.1,
     )
 
 pub shape_of-out : goal.shape_of-out

@@ -22,16 +22,16 @@ loop-b-smaller c =
 
 pub loop-b-preserved : goal.loop-b-preserved
 loop-b-preserved c =
-    held_on c.loop-b.invariant c.with_line-next.ensures c.with_line-next.auto.1.1.0
-    c.with_line-next.auto.1.1.1.0
+    held_on c.loop-b.invariant c.with_line-next.ensures c.with_line-next.auto.out
+    c.with_line-next.auto.said
 
 pub shape_of-out : goal.shape_of-out
 shape_of-out c =
-    omega (arith, c.with_line-next.auto.1.1.0, c.loop-b.invariant.long)
+    omega (arith, c.with_line-next.auto.out, c.loop-b.invariant.long)
 
 pub shape_of-said : goal.shape_of-said
 shape_of-said c =
-    omega (arith, c.with_line-next.auto.1.1.1.0, c.loop-b.invariant.long-said)
+    omega (arith, c.with_line-next.auto.said, c.loop-b.invariant.long-said)
 
 pub returns : goal.returns
 returns c =

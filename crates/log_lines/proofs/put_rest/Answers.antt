@@ -12,5 +12,5 @@ returns-then-out-lt-LONGEST c =
 
 pub returns : goal.returns
 returns c =
-    bad-rest c.args.left c.args.n c.args.out.now c.put_line_of.new.1.0
+    bad-rest c.args.left c.args.n c.args.out.now c.put_line_of.new.out
     c.put_line_of.result c.if-n-left.false c.if-out-lt-LONGEST.false c.put_line_of.ensures.0

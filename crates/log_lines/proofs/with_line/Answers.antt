@@ -30,8 +30,8 @@ pub returns-then-size-gt-MOST : goal.returns-then-size-gt-MOST
 returns-then-size-gt-MOST c =
     long-goes c.args.b c.args.input.now c.part-rest.result.now c.part-rest.ensures c.u32_at-size.result
     c.u32_at-size.ensures c.args.out.now c.args.said.now
-    c.if-b-gt0.false c.requires.1 c.requires.2 c.if-rest-lt4.false c.passed.result c.put_line_of-written.new.1.0
-    c.put_length-told.new.0 c.put_line_of-written.result c.number-log.result c.put_length-told.result
+    c.if-b-gt0.false c.requires.1 c.requires.2 c.if-rest-lt4.false c.passed.result c.put_line_of-written.new.out
+    c.put_length-told.new.said c.put_line_of-written.result c.number-log.result c.put_length-told.result
     (are-bytes c.args.input.now (λ i. omega (arith, c.shared_slice_known-1.given i))) c.if-size-gt-MOST.true
     c.number-log.ensures c.put_line_of-written.ensures.0 c.put_line_of-written.ensures.1
     c.put_length-told.ensures.0 c.put_length-told.ensures.1 c.passed.ensures
@@ -47,6 +47,6 @@ returns c =
     whole-goes c.args.b c.args.input.now c.part-rest.result.now c.part-rest.ensures c.u32_at-size.result
     c.u32_at-size.ensures c.args.out.now c.args.said.now
     c.if-b-gt0.false c.requires.1 c.requires.2 c.if-rest-lt4.false c.part.result.now
-    c.put_line_of-written-2.new.1.0 c.put_line_of-written-2.result c.number-log.result c.if-size-rest.false
+    c.put_line_of-written-2.new.out c.put_line_of-written-2.result c.number-log.result c.if-size-rest.false
     c.if-size-gt-MOST.false c.number-log.ensures
     c.part.ensures c.put_line_of-written-2.ensures.0 c.put_line_of-written-2.ensures.1

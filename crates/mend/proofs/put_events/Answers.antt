@@ -14,15 +14,6 @@ use Rattle.mending.proofs.Runs.{fewer_bytes}
 use Rattle.mend.proofs.Copies.{nothing, next-event, as_long}
 use Rattle.mend.proofs.put_events.Goals as goal
 
--- In a turn: the next event is among the first n, which there are and for which there is room.
-inside : (c : goal.In-loop-i → let x = c.args in
-    let size = event_size (form_of x.form) in
-    (c.loop-i.i + 1) * size ≤ x.n * size
-inside c = let x = c.args in fewer_bytes (form_of x.form) (c.loop-i.i + 1) x.n (omega arith)
-
-room : (c : goal.Else-n-size → let x = c.args in x.at + x.n * event_size (form_of x.form) ≤ length x.out.now
-room c = let left = rw c.event_size-size.ensures at c.if-n-size.false in omega arith
-
 pub returns-then-at-out : goal.returns-then-at-out
 returns-then-at-out c =
     let x = c.args in
@@ -46,11 +37,16 @@ loop-i-init c =
 
 pub overflow_mul-i : goal.overflow_mul-i
 overflow_mul-i c =
-    rw c.event_size-size.ensures (omega (arith, inside c.before, c.requires))
+    -- In a turn: the next event is among the first n, which there are and for which there is room.
+    let inside : let x = c.args in let size = event_size (form_of x.form) in (c.loop-i.i + 1) * size ≤ x.n * size = let x = c.args in fewer_bytes (form_of x.form) (c.loop-i.i + 1) x.n (omega arith) in
+    rw c.event_size-size.ensures (omega (arith, inside, c.requires))
 
 pub overflow_add-at : goal.overflow_add-at
 overflow_add-at c =
-    rw c.event_size-size.ensures (omega (arith, inside c.before, room c.before.before.before))
+    -- In a turn: the next event is among the first n, which there are and for which there is room.
+    let inside : let x = c.args in let size = event_size (form_of x.form) in (c.loop-i.i + 1) * size ≤ x.n * size = let x = c.args in fewer_bytes (form_of x.form) (c.loop-i.i + 1) x.n (omega arith) in
+    let room : let x = c.args in x.at + x.n * event_size (form_of x.form) ≤ length x.out.now = let left = rw c.event_size-size.ensures at c.if-n-size.false in omega arith in
+    rw c.event_size-size.ensures (omega (arith, inside, room))
 
 pub overflow_add-i : goal.overflow_add-i
 overflow_add-i c = omega arith
@@ -60,16 +56,19 @@ loop-i-smaller c = omega arith
 
 pub loop-i-preserved : goal.loop-i-preserved
 loop-i-preserved c =
+    -- In a turn: the next event is among the first n, which there are and for which there is room.
+    let inside : let x = c.args in let size = event_size (form_of x.form) in (c.loop-i.i + 1) * size ≤ x.n * size = let x = c.args in fewer_bytes (form_of x.form) (c.loop-i.i + 1) x.n (omega arith) in
+    let room : let x = c.args in x.at + x.n * event_size (form_of x.form) ≤ length x.out.now = let left = rw c.event_size-size.ensures at c.if-n-size.false in omega arith in
     let l = c.loop-i in
     let x = c.args in
     let form = form_of x.form in
     let bs = x.events.now in
     let bytes = are-bytes bs (λ i. omega (arith, c.shared_slice_known-1.given i)) in
-    let fits = inside c.before.before.before.before.before in
+    let fits = inside in
     let there = c.requires in
-    let space = room c.before.before.before.before.before.before.before in (
+    let space = room in (
       omega arith,
-      next-event form bs x.out.now l.out c.put_event.new.0 x.at l.i bytes (omega arith) (omega arith) c.event_at.ensures l.invariant.1
+      next-event form bs x.out.now l.out c.put_event.new.buffer x.at l.i bytes (omega arith) (omega arith) c.event_at.ensures l.invariant.1
           (rw c.event_size-size.ensures at c.put_event.ensures),
     )
 

@@ -8,38 +8,43 @@ use Rattle.exchange.specs.Meaning.{form_of}
 use Rattle.exchange.proofs.Entries.{size-some}
 use Rattle.logs.specs.Layout.{said}
 use Rattle.logs.proofs.Forms.{moved-little, few_bytes}
-use Rattle.logs.proofs.Layouts.{above}
 use Rattle.off_field.proofs.placed.Goals as goal
-
-little : (c : goal.After-moved_by-moved) → c.moved_by-moved.result ≤ 1
-little c = rw c.moved_by-moved.ensures (moved-little (form_of c.form_in-form.result))
-
-sized : (c : goal.After-header_size-size) → c.header_size-size.result ≤ 37
-sized c = rw c.header_size-size.ensures (omega (arith, moved-little (form_in (said c.args.h))))
 
 few : (form : Form) (n : ℕ) {size : ℕ} → size ≡ event_size form → n * size ≤ n * 12
 few form n e = rw e (few_bytes form n)
 
 pub overflow_add-result : goal.overflow_add-result
-overflow_add-result c = omega (arith, little c.before.before.before.before)
+overflow_add-result c =
+    let little : c.moved_by-moved.result ≤ 1 = rw c.moved_by-moved.ensures (moved-little (form_of c.form_in-form.result)) in
+    omega (arith, little)
 
 pub overflow_add-result-in-1 : goal.overflow_add-result-in-1
-overflow_add-result-in-1 c = omega (arith, little c.before.before)
+overflow_add-result-in-1 c =
+    let little : c.moved_by-moved.result ≤ 1 = rw c.moved_by-moved.ensures (moved-little (form_of c.form_in-form.result)) in
+    omega (arith, little)
 
 pub overflow_add-begins : goal.overflow_add-begins
-overflow_add-begins c = omega (arith, sized c.before.before)
+overflow_add-begins c =
+    let sized : c.header_size-size.result ≤ 37 = rw c.header_size-size.ensures (omega (arith, moved-little (form_in (said c.args.h)))) in
+    omega (arith, sized)
 
 pub overflow_add-result-in-2 : goal.overflow_add-result-in-2
-overflow_add-result-in-2 c = omega (arith, little c.before.before.before)
+overflow_add-result-in-2 c =
+    let little : c.moved_by-moved.result ≤ 1 = rw c.moved_by-moved.ensures (moved-little (form_of c.form_in-form.result)) in
+    omega (arith, little)
 
 pub nonzero_div-result : goal.nonzero_div-result
 nonzero_div-result c = omega (arith, c.event_size.ensures, size-some (form_of c.form_in-form.result))
 
 pub overflow_add-should : goal.overflow_add-should
-overflow_add-should c = omega (arith, sized c.before.before)
+overflow_add-should c =
+    let sized : c.header_size-size.result ≤ 37 = rw c.header_size-size.ensures (omega (arith, moved-little (form_in (said c.args.h)))) in
+    omega (arith, sized)
 
 pub overflow_add-result-in-3 : goal.overflow_add-result-in-3
-overflow_add-result-in-3 c = omega (arith, little c.before.before.before)
+overflow_add-result-in-3 c =
+    let little : c.moved_by-moved.result ≤ 1 = rw c.moved_by-moved.ensures (moved-little (form_of c.form_in-form.result)) in
+    omega (arith, little)
 
 pub overflow_mul-begins : goal.overflow_mul-begins
 overflow_mul-begins c = omega (arith, few (form_of c.form_in-form.result) c.args.h.events c.event_size-in-4.ensures)
@@ -48,7 +53,9 @@ pub overflow_add-begins-in-4 : goal.overflow_add-begins-in-4
 overflow_add-begins-in-4 c = omega (arith, few (form_of c.form_in-form.result) c.args.h.events c.event_size-in-4.ensures)
 
 pub overflow_add-result-in-4 : goal.overflow_add-result-in-4
-overflow_add-result-in-4 c = omega (arith, little c.before.before.before.before.before)
+overflow_add-result-in-4 c =
+    let little : c.moved_by-moved.result ≤ 1 = rw c.moved_by-moved.ensures (moved-little (form_of c.form_in-form.result)) in
+    omega (arith, little)
 
 pub overflow_mul-should : goal.overflow_mul-should
 overflow_mul-should c = omega (arith, few (form_of c.form_in-form.result) c.args.h.events c.event_size-in-5.ensures)
@@ -57,19 +64,25 @@ pub overflow_add-should-in-5 : goal.overflow_add-should-in-5
 overflow_add-should-in-5 c = omega (arith, few (form_of c.form_in-form.result) c.args.h.events c.event_size-in-5.ensures)
 
 pub overflow_add-result-in-5 : goal.overflow_add-result-in-5
-overflow_add-result-in-5 c = omega (arith, little c.before.before.before.before.before)
+overflow_add-result-in-5 c =
+    let little : c.moved_by-moved.result ≤ 1 = rw c.moved_by-moved.ensures (moved-little (form_of c.form_in-form.result)) in
+    omega (arith, little)
 
 pub overflow_cast-result-in-5 : goal.overflow_cast-result-in-5
 overflow_cast-result-in-5 c = omega (arith, c.struct_known-in-5-3-1.given)
 
 pub overflow_add-result-in-6 : goal.overflow_add-result-in-6
-overflow_add-result-in-6 c = omega (arith, little c.before.before.before.before)
+overflow_add-result-in-6 c =
+    let little : c.moved_by-moved.result ≤ 1 = rw c.moved_by-moved.ensures (moved-little (form_of c.form_in-form.result)) in
+    omega (arith, little)
 
 pub overflow_cast-result-in-6 : goal.overflow_cast-result-in-6
 overflow_cast-result-in-6 c = omega (arith, c.struct_known-in-6-3-1.given)
 
 pub overflow_add-result-in-7 : goal.overflow_add-result-in-7
-overflow_add-result-in-7 c = omega (arith, little c.before.before)
+overflow_add-result-in-7 c =
+    let little : c.moved_by-moved.result ≤ 1 = rw c.moved_by-moved.ensures (moved-little (form_of c.form_in-form.result)) in
+    omega (arith, little)
 
 pub returns-in-0 : goal.returns-in-0
 returns-in-0 c =
@@ -105,5 +118,5 @@ returns-in-7 c =
 
 pub returns-in_default : goal.returns-in_default
 returns-in_default c =
-    let k : c.args.i ≡ 8 = omega (arith, c.pre, above c.args.i 8 c.in_default.rest) in
+    let k : c.args.i ≡ 8 = omega (arith, c.requires) in
     rw k

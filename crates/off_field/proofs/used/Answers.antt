@@ -1,7 +1,6 @@
 -- `off_field::used` meets its contract.
 use native.Mathlib.Omega.{arith}
 use mathlib.Core.Path.{◌≡◌}
-use Rattle.logs.proofs.Layouts.{above}
 use Rattle.off_field.proofs.used.Goals as goal
 
 pub returns-in-0 : goal.returns-in-0
@@ -30,5 +29,5 @@ returns-in-7 c = rw c.in-7.is
 
 pub returns-in_default : goal.returns-in_default
 returns-in_default c =
-    let k : c.args.i ≡ 8 = omega (arith, c.requires, above c.args.i 8 c.in_default.rest) in
+    let k : c.args.i ≡ 8 = omega (arith, c.requires) in
     rw (k, c.most_listens.ensures, c.form_in.ensures)

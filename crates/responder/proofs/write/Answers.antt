@@ -1,7 +1,7 @@
 -- `responder::write` meets its contract.
 use Prim.Native.Nat.{ℕ}
 use native.Mathlib.Omega.{arith}
-use mathlib.Core.List.{List, ◌∷◌}
+use mathlib.Core.List.{List, [], ◌∷◌}
 use mathlib.Core.Path.{◌∙◌, ap, subst}
 use lib.ListN.{length, drop, length-drop}
 use lib.Seq.{take_all}
@@ -24,7 +24,7 @@ returns c =
     let low = c.byte_at-2.ensures in
     let puts =
     subst
-    (λ (b : List ℕ). Puts b before c.put.result c.put.new.0)
+    (λ (b : List ℕ). Puts b before c.put.result c.put.new.reply)
     (λ j. 0x6e ∷ high j ∷ low j ∷ [])
     c.put.ensures in
     let bytes = c.part.ensures ∙ take_all (length q) (drop 3 q) (omega (arith, length-drop 3 q)) in

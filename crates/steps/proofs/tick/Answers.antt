@@ -20,4 +20,4 @@ returns-in-Settled c =
 pub returns-else-past : goal.returns-else-past
 returns-else-past c =
     ticks c.args.engine c.args.now c.in-Waiting.is (rw (le-ltb _ _ c.if-now-engine.false, sym c.past.ensures ∙ c.if-past.false)
-    c.Going-on.ensures)
+    c.going_on.ensures)

@@ -7,7 +7,7 @@ returns-in-On c =
       turn = c.turn.result;
       turns = rw (c.asked.ensures) at c.turn.ensures;
       behind = rw (c.in-On.is)
-          c.Going-on.ensures;
+          c.going_on.ensures;
     }
 
 pub returns-in-Ends : goal.returns-in-Ends

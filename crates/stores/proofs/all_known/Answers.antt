@@ -1,19 +1,13 @@
 -- `stores::all_known` meets its contract.
-use Prim.Native.Nat.{ℕ, ◌-◌, ◌≤◌, ◌<◌}
+use Prim.Native.Nat.{◌-◌}
 use native.Mathlib.Omega.{arith}
 use mathlib.Core.List.{List}
-use mathlib.Core.Path.{◌≡◌, sym, ◌∙◌, ap}
+use mathlib.Core.Path.{sym, ◌∙◌, ap}
 use borrow.Author.Tests.{not-true, not-false}
 use Rattle.rules.specs.Bytes.{u16_at, every}
 use Rattle.bench.specs.Stores.{Slot, store_of, known}
-use Rattle.stores.proofs.Slots.{left, all_left, none_left, fails, holds}
+use Rattle.stores.proofs.Slots.{all_left, none_left, fails, holds}
 use Rattle.stores.proofs.all_known.Goals as goal
-
-record Held (store : List ℕ) (n i : ℕ) : Type 0 where
-  inside : i ≤ n
-  few : n < 65536
-  count : n ≡ u16_at store 18
-  same : every (known (store_of store)) (left store i) ≡ every (known (store_of store)) (store_of store).slots
 
 pub loop-i-init : goal.loop-i-init
 loop-i-init c =

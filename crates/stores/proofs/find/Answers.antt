@@ -1,20 +1,14 @@
 -- `stores::find` meets its contract: what is left to look through holds what the whole list does.
-use Prim.Native.Nat.{ℕ, ◌-◌, ◌≤◌, ◌<◌}
+use Prim.Native.Nat.{◌-◌, ◌<◌}
 use native.Mathlib.Omega.{arith}
 use mathlib.Core.List.{List}
-use mathlib.Core.Path.{◌≡◌, sym, ◌∙◌, ap}
+use mathlib.Core.Path.{sym, ◌∙◌, ap}
 use borrow.Author.Tests.{ne_eqb}
 use Rattle.rules.specs.Bytes.{u16_at}
-use Rattle.bench.specs.Stores.{Slot, store_of, slot_of}
+use Rattle.bench.specs.Stores.{Slot}
 use Rattle.bench.specs.Stores as bench
-use Rattle.stores.proofs.Slots.{left, all_left, none_left, hits, misses}
+use Rattle.stores.proofs.Slots.{all_left, none_left, hits, misses}
 use Rattle.stores.proofs.find.Goals as goal
-
-record Held (store : List ℕ) (id n i : ℕ) : Type 0 where
-  inside : i ≤ n
-  few : n < 65536
-  count : n ≡ u16_at store 18
-  same : bench.find (left store i) id ≡ slot_of (store_of store) id
 
 pub loop-i-init : goal.loop-i-init
 loop-i-init c =

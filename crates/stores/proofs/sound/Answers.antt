@@ -79,4 +79,4 @@ returns c =
       total = omega (arith, c.if-total-faults.false, faults, total, fault_count);
       whole = sym total ∙ c.if-total-store.false;
     } in
-    c.all_Known.ensures ∙ passes l nine
+    c.all_known.ensures ∙ passes l nine

@@ -6,10 +6,6 @@ use borrow.Author.Tests.{not-true, not-false}
 use Rattle.story_exchange.proofs.Going.{first, no_more, too-late, after_on, ends_it}
 use Rattle.story_exchange.proofs.put_exchange.Goals as goal
 
--- A count fits its type.
-room : (c : goal.Else-i-count → c.event_count-count.result ≤ 18446744073709551615
-room c = omega arith
-
 pub loop-i-init : goal.loop-i-init
 loop-i-init c = first _ _ _ _ _ _ _ c.event_count-count.ensures c.start-state.ensures
 
@@ -22,8 +18,8 @@ loop-i-smaller c = omega arith
 pub loop-i-preserved : goal.loop-i-preserved
 loop-i-preserved c =
     after_on _ _ _ _ _ _ _ c.loop-i.invariant c.event_at-event.ensures c.if-i-count.false (omega arith) c.turn.ensures
-    (sym c.is_read.ensures ∙ not-false _ c.if-not-is_read.false-raw) c.in-On.is c.put_Going.ensures
-    c.put_Going.auto.0
+    (sym c.is_read.ensures ∙ not-false _ c.if-not-is_read.false-raw) c.in-On.is c.put_going-n.ensures
+    c.put_going-n.auto.text
 
 pub returns-then-i-count : goal.returns-then-i-count
 returns-then-i-count c =
@@ -36,6 +32,8 @@ returns-then-not-is_read c =
 
 pub returns-in-Ends : goal.returns-in-Ends
 returns-in-Ends c =
-    ends_it _ _ _ _ _ _ _ c.loop-i.invariant c.event_at-event.ensures c.if-i-count.false (room c.before.before.before.before.before.before.before.before.before.before.before.before)
+    -- A count fits its type.
+    let room : c.event_count-count.result ≤ 18446744073709551615 = omega arith in
+    ends_it _ _ _ _ _ _ _ c.loop-i.invariant c.event_at-event.ensures c.if-i-count.false room
     c.turn.ensures (sym c.is_read.ensures ∙ not-false _ c.if-not-is_read.false-raw) c.in-Ends.is
     c.put_settled-end.ensures

@@ -16,7 +16,7 @@ loop-i-smaller c = omega arith
 pub loop-i-preserved : goal.loop-i-preserved
 loop-i-preserved c =
     rest-next _ _ _ _ c.loop-i.invariant c.event_at-event.ensures c.loop-i-test.true c.put_unread-n.ensures
-    c.put_unread-n.auto.0
+    c.put_unread-n.auto.text
 
 pub shape_of-text : goal.shape_of-text
 shape_of-text c = c.loop-i.invariant.long

@@ -10,10 +10,6 @@ use Rattle.text.proofs.has_room.Goals as goal
 pub returns-then-fits : goal.returns-then-fits
 returns-then-fits c =
     let a = c.args in
-    let long = leb-true (a.word + 65 + shown (a.head + a.bytes)) a.line (rw c.fits2.ensures at c.if-fits.true) in
+    let long = leb-true (a.word + 65 + shown (a.head + a.bytes)) a.line (rw c.fits.ensures at c.if-fits.true) in
     sym (le-leb (room a.word a.time a.events a.notices (a.head + a.bytes)) a.line
     (omega (arith, digits 19 19 a.time (omega arith), digits 19 19 a.events (omega arith), digits 19 19 a.notices (omega arith))))
-
-pub returns : goal.returns
-returns c =
-    rw (← c.decimal_length.ensures.0, ← c.decimal_length-2.ensures.0, ← c.decimal_length-3.ensures.0) c.fits3.ensures

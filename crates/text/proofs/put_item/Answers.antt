@@ -16,7 +16,7 @@ returns-then-not-fits c =
     not-appended (item c.args.word.now c.args.number c.args.bytes.now) c.args.line.now c.args.at
     (item-full c.args.word.now c.args.bytes.now c.args.number c.args.at (length c.args.line.now)
     c.beside-numbers.result c.decimal_length.result c.decimal_length.ensures.0
-    c.beside-numbers.ensures c.if-at-line.false c.fits2.ensures c.if-not-fits.true-raw)
+    c.beside-numbers.ensures c.if-at-line.false c.fits.ensures c.if-not-fits.true)
 
 pub put_word-a-requires : goal.put_word-a-requires
 put_word-a-requires c =
@@ -24,7 +24,7 @@ put_word-a-requires c =
       arith,
       item-fits c.args.word.now c.args.bytes.now c.args.number c.args.at (length c.args.line.now)
           c.beside-numbers.result c.decimal_length.result c.decimal_length.ensures.0
-          c.beside-numbers.ensures c.if-at-line.false c.fits2.ensures c.if-not-fits.false-raw,
+          c.beside-numbers.ensures c.if-at-line.false c.fits.ensures c.if-not-fits.false,
     )
 
 pub put_number-b-requires : goal.put_number-b-requires
@@ -34,7 +34,7 @@ put_number-b-requires c =
       c.put_word-a.ensures.next,
       item-fits c.args.word.now c.args.bytes.now c.args.number c.args.at (length c.args.line.now)
           c.beside-numbers.result c.decimal_length.result c.decimal_length.ensures.0
-          c.beside-numbers.ensures c.if-at-line.false c.fits2.ensures c.if-not-fits.false-raw,
+          c.beside-numbers.ensures c.if-at-line.false c.fits.ensures c.if-not-fits.false,
     )
 
 pub put_bytes-c-requires : goal.put_bytes-c-requires
@@ -45,7 +45,7 @@ put_bytes-c-requires c =
       c.put_number-b.ensures.next,
       item-fits c.args.word.now c.args.bytes.now c.args.number c.args.at (length c.args.line.now)
           c.beside-numbers.result c.decimal_length.result c.decimal_length.ensures.0
-          c.beside-numbers.ensures c.if-at-line.false c.fits2.ensures c.if-not-fits.false-raw,
+          c.beside-numbers.ensures c.if-at-line.false c.fits.ensures c.if-not-fits.false,
     )
 
 pub put_byte-requires : goal.put_byte-requires
@@ -57,7 +57,7 @@ put_byte-requires c =
       c.put_bytes-c.ensures.next,
       item-fits c.args.word.now c.args.bytes.now c.args.number c.args.at (length c.args.line.now)
           c.beside-numbers.result c.decimal_length.result c.decimal_length.ensures.0
-          c.beside-numbers.ensures c.if-at-line.false c.fits2.ensures c.if-not-fits.false-raw,
+          c.beside-numbers.ensures c.if-at-line.false c.fits.ensures c.if-not-fits.false,
     )
 
 pub returns : goal.returns
@@ -65,7 +65,7 @@ unfolding item
 returns c =
     let fit = item-fits c.args.word.now c.args.bytes.now c.args.number c.args.at (length c.args.line.now)
     c.beside-numbers.result c.decimal_length.result c.decimal_length.ensures.0
-    c.beside-numbers.ensures c.if-at-line.false c.fits2.ensures c.if-not-fits.false-raw in
+    c.beside-numbers.ensures c.if-at-line.false c.fits.ensures c.if-not-fits.false in
     let w = c.put_word-a.ensures in
     let n = c.put_number-b.ensures in
     let b = c.put_bytes-c.ensures in

@@ -1,22 +1,24 @@
 -- `text::put_line` meets its contract.
 use native.Mathlib.Omega.{arith}
-use Rattle.text.proofs.Standing.{Asked, full, enough, stands}
+use Rattle.text.proofs.Standing.{full, enough, stands}
 use Rattle.text.proofs.put_line.Goals as goal
 
-asked : (c : goal.After-has_room) → let a = c.args in
-    Asked a.word.now a.head.now a.bytes.now a.line.now a.time a.events a.notices c.has_room.result
-asked c = record { says = c.has_room.ensures }
-
 pub returns-then-not-has_room : goal.returns-then-not-has_room
-returns-then-not-has_room c = full (asked c.before) c.if-not-has_room.true-raw
+returns-then-not-has_room c =
+    let a = c.args in
+    full a.word.now a.head.now a.bytes.now a.line.now a.time a.events a.notices c.has_room.ensures c.if-not-has_room.true
 
 pub put_word-a-requires : goal.put_word-a-requires
-put_word-a-requires c = omega (arith, enough (asked c.before.before) c.if-not-has_room.false-raw)
+put_word-a-requires c =
+    let a = c.args in
+    omega (arith, enough a.word.now a.head.now a.bytes.now a.line.now a.time a.events a.notices c.has_room.ensures c.if-not-has_room.false)
 
 pub put_rest-requires : goal.put_rest-requires
 put_rest-requires c =
-    omega (arith, enough (asked c.before.before.before.before.before.before) c.if-not-has_room.false-raw)
+    let a = c.args in
+    omega (arith, enough a.word.now a.head.now a.bytes.now a.line.now a.time a.events a.notices c.has_room.ensures c.if-not-has_room.false)
 
 pub returns : goal.returns
 returns c =
-    stands (asked c.before.before.before.before.before.before.before.before.before) c.if-not-has_room.false-raw c.put_word-a.ensures c.put_rest.ensures
+    let a = c.args in
+    stands a.word.now a.head.now a.bytes.now a.line.now a.time a.events a.notices c.has_room.ensures c.if-not-has_room.false c.put_word-a.ensures c.put_rest.ensures

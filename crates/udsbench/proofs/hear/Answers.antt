@@ -24,7 +24,7 @@ loop-i-smaller c = omega arith
 
 pub loop-i-preserved : goal.loop-i-preserved
 loop-i-preserved c =
-    (omega arith, turn _ c.args.input.now c.loop-i.i c.loop-i-test.true c.loop-i.invariant.1 c.hear_byte-n.ensures, c.hear_byte-n.auto.0 ∙ c.loop-i.invariant.2)
+    (omega arith, turn _ c.args.input.now c.loop-i.i c.loop-i-test.true c.loop-i.invariant.1 c.hear_byte-n.ensures, c.hear_byte-n.auto.store ∙ c.loop-i.invariant.2)
 
 pub shape_of-store : goal.shape_of-store
 shape_of-store c = c.loop-i.invariant.2

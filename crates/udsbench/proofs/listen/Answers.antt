@@ -6,4 +6,4 @@ use Rattle.udsbench.proofs.listen.Goals as goal
 
 pub loop-turns-preserved : goal.loop-turns-preserved
 loop-turns-preserved c =
-    (subst (λ (i : Input). Keeps i) c.in-More.is c.read_on.ensures.1, c.read_on.ensures.0, c.read_on.auto.0 ∙ c.loop-turns.invariant.2)
+    (subst (λ (i : Input). Keeps i) c.in-More.is c.read_on.ensures.1, c.read_on.ensures.0, c.read_on.auto.store ∙ c.loop-turns.invariant.2)

@@ -15,4 +15,4 @@ overflow_add-n c =
 pub loop-n-preserved : goal.loop-n-preserved
 loop-n-preserved c =
     let more = subst (λ (x : Loaded). Fills x (length c.loop-n.file - c.loop-n.n)) c.in-Bytes.is c.load_more.ensures in
-    (omega (arith, more, c.load_more.auto.1.0), c.load_more.auto.1.0 ∙ c.loop-n.invariant.1)
+    (omega (arith, more, c.load_more.auto.file), c.load_more.auto.file ∙ c.loop-n.invariant.1)

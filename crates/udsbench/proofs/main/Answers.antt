@@ -6,4 +6,4 @@ use Rattle.udsbench.proofs.main.Goals as goal
 
 pub play-requires : goal.play-requires
 play-requires c =
-    subst⁻¹ (λ (n : ℕ). Fills c.load-loaded.result n) c.load-loaded.auto.1.0 c.load-loaded.ensures
+    subst⁻¹ (λ (n : ℕ). Fills c.load-loaded.result n) c.load-loaded.auto.file c.load-loaded.ensures

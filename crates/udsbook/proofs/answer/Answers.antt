@@ -8,7 +8,7 @@ pub returns-in-New : goal.returns-in-New
 returns-in-New c =
     let x = c.args in
     rw c.in-New.is
-    (begun (take x.n x.book.now) x.log.now x.book.now c.begin.new.0 x.said.now c.begin.result
+    (begun (take x.n x.book.now) x.log.now x.book.now c.begin.new.book x.said.now c.begin.result
     (omega (arith, c.requires.0)) c.begin.ensures)
 
 pub returns-in-Add : goal.returns-in-Add
@@ -29,5 +29,5 @@ pub returns-in-Usage : goal.returns-in-Usage
 returns-in-Usage c =
     let x = c.args in
     rw c.in-Usage.is
-    (used-wrong (take x.n x.book.now) x.log.now x.book.now x.said.now c.put_usage.new.0 c.put_usage.result c.requires.2
+    (used-wrong (take x.n x.book.now) x.log.now x.book.now x.said.now c.put_usage.new.text c.put_usage.result c.requires.2
     c.put_usage.ensures)

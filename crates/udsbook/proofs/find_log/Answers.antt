@@ -5,12 +5,10 @@ use Rattle.udsbook.proofs.find_log.Goals as goal
 pub returns-in-Log : goal.returns-in-Log
 returns-in-Log c =
     let x = c.args in
-    let place = c.place-1.given in
-    found-log x.book.now x.n x.call x.k place.0.0 x.said.now (rw (place.1, c.part.ensures) at c.find.ensures)
+    found-log x.book.now x.n x.call x.k c.in-Log.place x.said.now (rw (c.in-Log.is, c.part.ensures) at c.find.ensures)
 
 pub returns-in-Refused : goal.returns-in-Refused
 returns-in-Refused c =
-    let number = c.number-1.given in
     let x = c.args in
-    not_found x.book.now x.n x.call x.k number.0.0 c.put_refusal.result x.said.now c.put_refusal.new.0 c.requires
-    (rw (number.1, c.part.ensures) at c.find.ensures) c.put_refusal.ensures
+    not_found x.book.now x.n x.call x.k c.in-Refused.number c.put_refusal.result x.said.now c.put_refusal.new.text c.requires
+    (rw (c.in-Refused.is, c.part.ensures) at c.find.ensures) c.put_refusal.ensures

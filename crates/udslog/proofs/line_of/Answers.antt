@@ -18,27 +18,24 @@ bytes_take (suc n) [] h i = h i
 bytes_take (suc n) (x ∷ xs) h zero = h 0
 bytes_take (suc n) (x ∷ xs) h (suc i) = bytes_take n xs (λ k. h (suc k)) i
 
-abbrev start : goal.After-line_of → goal.Start
-start a = a.before.before.before.before.before
-
--- All that was read.
-abbrev log : goal.After-line_of → List ℕ
-log a = take (start a).args.n (start a).args.input.now
-
-bytes : (a : goal.After-line_of) (i : ℕ) → get_or (log a) i 0 < 256
-bytes a = bytes_take (start a).args.n (start a).args.input.now (λ i. omega (arith, a.shared_slice_known-1.given i))
-
--- The line of what was handed on is the line of what was read.
-wrote : (a : goal.After-line_of) → Wrote (line_of (log a)) (start a).args.line.now a.line_of.result a.line_of.new.1.0
-wrote a = rw (← a.part.ensures) a.line_of.ensures
+bytes : (a : goal.After-line_of) (i : ℕ) → get_or log i 0 < 256
+bytes a = bytes_take a.args.n a.args.input.now (λ i. omega (arith, a.shared_slice_known-1.given i))
 
 never : {w : Written} {n : ℕ} → w ≡ Line n → w ≡ NoRoom → ⊥
 never e k = let z : ◌≡◌ {A = ℕ} 0 1 = cc in omega arith
 
 pub returns-in-Line : goal.returns-in-Line
 returns-in-Line c =
-    stands (log c.before.before.before.before.before) (bytes c.before.before.before.before.before) (start c.before.before.before.before.before).requires (wrote c.before.before.before.before.before) c.in-Line.is
+    -- All that was read.
+    let log = take c.args.n c.args.input.now in
+    -- The line of what was handed on is the line of what was read.
+    let wrote : Wrote (line_of log) c.args.line.now c.line_of.result c.line_of.new.line = rw (← c.part.ensures) c.line_of.ensures in
+    stands log (bytes c.before.before.before.before.before) c.requires wrote c.in-Line.is
 
 pub returns-in-NoRoom : goal.returns-in-NoRoom
 returns-in-NoRoom c =
-    absurd (never (always-room (log c.before.before.before.before) (bytes c.before.before.before.before) (start c.before.before.before.before).requires (wrote c.before.before.before.before)) c.in-NoRoom.is)
+    -- All that was read.
+    let log = take c.args.n c.args.input.now in
+    -- The line of what was handed on is the line of what was read.
+    let wrote : Wrote (line_of log) c.args.line.now c.line_of.result c.line_of.new.line = rw (← c.part.ensures) c.line_of.ensures in
+    absurd (never (always-room log (bytes c.before.before.before.before) c.requires wrote) c.in-NoRoom.is)

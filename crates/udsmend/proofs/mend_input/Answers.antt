@@ -1,8 +1,6 @@
 -- `mend_input` meets its contract: there is always room.
-use Prim.Native.Nat.{ℕ}
 use native.Mathlib.Omega.{arith}
 use mathlib.Core.Bool.{true}
-use mathlib.Core.List.{List}
 use mathlib.Core.Logic.{inr}
 use mathlib.Core.Path.{◌≡◌}
 use Rattle.rules.specs.Bytes.{every, is_byte}
@@ -12,31 +10,27 @@ use Rattle.mend.proofs.Promises.{room-enough}
 use Rattle.udsmend.proofs.Holding.{logged, refused}
 use Rattle.udsmend.proofs.mend_input.Goals as goal
 
-abbrev start : goal.After-mend → goal.Start
-start c = c.before.before.before.before.before.before
-
--- All that was read.
-abbrev read : goal.After-mend → List ℕ
-read c = c.part.result.now
-
-bytes : (c : goal.After-mend) → every is_byte (read c) ≡ true
-bytes c =
-    let x = (start c).args in
-    let input = are-bytes x.input.now (λ i. omega (arith, c.shared_slice_known-1.given i)) in
-    rw c.part.ensures (every_take is_byte x.n x.input.now input)
-
 pub returns-in-Log : goal.returns-in-Log
 returns-in-Log c =
-    let x = (start c.before.before.before.before.before.before.before.before.before).args in
-    logged x.input.now (read c.before.before.before.before.before.before.before.before.before) x.out.now c.mend.new.1.0 x.said.now c.put_report.new.0 x.n c.part.ensures
+    -- All that was read.
+    let read = c.part.result.now in
+    let x = c.args in
+    logged x.input.now read x.out.now c.mend.new.out x.said.now c.put_report.new.text x.n c.part.ensures
     c.in-Log.m c.put_report.result c.in-Log.report (rw c.in-Log.is at c.mend.ensures) c.put_report.ensures
 
 pub returns-in-Refused : goal.returns-in-Refused
 returns-in-Refused c =
-    let x = (start c.before.before.before.before.before.before.before.before.before).args in
-    refused x.input.now (read c.before.before.before.before.before.before.before.before.before) x.out.now c.mend.new.1.0 x.said.now c.put_refusal.new.0 x.n c.part.ensures
+    -- All that was read.
+    let read = c.part.result.now in
+    let x = c.args in
+    refused x.input.now read x.out.now c.mend.new.out x.said.now c.put_refusal.new.text x.n c.part.ensures
     c.in-Refused.number c.put_refusal.result (rw c.in-Refused.is at c.mend.ensures) c.put_refusal.ensures
 
 pub returns-in-NoRoom : goal.returns-in-NoRoom
 returns-in-NoRoom c =
-    absurd (room-enough (read c.before.before.before.before) (start c.before.before.before.before).args.out.now (bytes c.before.before.before.before) (inr (start c.before.before.before.before).requires.0) c.mend.new.1.0 (rw c.in-NoRoom.is at c.mend.ensures))
+    -- All that was read.
+    let read = c.part.result.now in
+    let bytes : every is_byte read ≡ true = let x = c.args in
+        let input = are-bytes x.input.now (λ i. omega (arith, c.shared_slice_known-1.given i)) in
+        rw c.part.ensures (every_take is_byte x.n x.input.now input) in
+    absurd (room-enough read c.args.out.now bytes (inr c.requires.0) c.mend.new.out (rw c.in-NoRoom.is at c.mend.ensures))

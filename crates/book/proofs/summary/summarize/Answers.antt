@@ -93,7 +93,7 @@ loop-i-preserved c =
     let rest = others b n l.i l.at more log is in
     let this = walked b n l.i l.at more log is in
     let sound = both (layout_ok log) (every layout_ok rest) (sym (ap (every layout_ok) this) ∙ l.invariant.3) in
-    let one : c.count_log.new.0 ≡ raised l.summary log = c.count_log.ensures ∙ ap (λ (t : Bool). cond t (raised
+    let one : c.count_log.new.summary ≡ raised l.summary log = c.count_log.ensures ∙ ap (λ (t : Bool). cond t (raised
     l.summary log) l.summary) sound.0 in (
       omega arith,
       omega (arith, l.invariant.1, short),

@@ -14,47 +14,44 @@ use mathlib.Core.List.{List, ◌∷◌, ◌++◌}
 use Prim.Native.Nat.{ℕ, ◌+◌, ◌-◌, ◌≤◌}
 use Rattle.book.proofs.writer.insert.Goals as goal
 
-abbrev begun : goal.After-start-logs_at → goal.Start
-begun c = c.before.before.before.before.before
-
-abbrev logs : goal.After-start-logs_at → List (List ℕ)
-logs c = logs_in (take (begun c).args.n (begun c).args.book.now)
-
-reach : (c : goal.After-start-logs_at) → (begun c).args.n ≤ length (begun c).args.book.now
-reach c = omega (arith, (begun c).requires.2)
-
-counted : (c : goal.After-start-logs_at) → c.log_count-count.result ≡ length (logs c)
-counted c = let s = begun c in c.log_count-count.ensures.0 ∙ count-in s.args.book.now s.args.n s.pre.0 (reach c)
-
-few : (c : goal.After-start-logs_at) → c.log_count-count.result ≤ 1489
-few c = let s = begun c in omega (arith, counted c, few-logs (take s.args.n s.args.book.now) (opened _ s.pre.0))
-
-started : (c : goal.After-start-logs_at) → c.start-logs_at.result ≡ start (length (logs c))
-started c = c.start-logs_at.ensures ∙ ap start (counted c)
-
--- The book is its directory and its logs.
-long : (c : goal.After-start-logs_at) → (begun c).args.n ≡ c.start-logs_at.result + length (joined (logs c))
-long c =
-    let s = begun c in
-    book-long s.args.book.now s.args.n s.pre.0 (reach c) ∙ ap (λ (k : ℕ). k + length (joined (logs c))) (sym (started c))
-
 pub overflow_sub-logs : goal.overflow_sub-logs
-overflow_sub-logs c = omega (arith, long c)
+overflow_sub-logs c =
+    let logs = logs_in (take c.args.n c.args.book.now) in
+    let reach : c.args.n ≤ length c.args.book.now = omega (arith, c.requires.2) in
+    let counted : c.log_count-count.result ≡ length logs = c.log_count-count.ensures.0 ∙ count-in c.args.book.now c.args.n c.requires.0 reach in
+    let started : c.start-logs_at.result ≡ start (length logs) = c.start-logs_at.ensures ∙ ap start counted in
+    -- The book is its directory and its logs.
+    let long : c.args.n ≡ c.start-logs_at.result + length (joined logs) = book-long c.args.book.now c.args.n c.requires.0 reach ∙ ap (λ (k : ℕ). k + length (joined logs)) (sym started) in
+    omega (arith, long)
 
 pub move_on-requires : goal.move_on-requires
-move_on-requires c = omega (arith, long c.before.before.before.before.before, (begun c.before.before.before.before.before).requires.2, c.book-1.given)
+move_on-requires c =
+    let logs = logs_in (take c.args.n c.args.book.now) in
+    let reach : c.args.n ≤ length c.args.book.now = omega (arith, c.requires.2) in
+    let counted : c.log_count-count.result ≡ length logs = c.log_count-count.ensures.0 ∙ count-in c.args.book.now c.args.n c.requires.0 reach in
+    let started : c.start-logs_at.result ≡ start (length logs) = c.start-logs_at.ensures ∙ ap start counted in
+    -- The book is its directory and its logs.
+    let long : c.args.n ≡ c.start-logs_at.result + length (joined logs) = book-long c.args.book.now c.args.n c.requires.0 reach ∙ ap (λ (k : ℕ). k + length (joined logs)) (sym started) in
+    omega (arith, long, c.requires.2, c.book-1.given)
 
 pub put_offsets-requires : goal.put_offsets-requires
 put_offsets-requires c =
+    let logs = logs_in (take c.args.n c.args.book.now) in
+    let reach : c.args.n ≤ length c.args.book.now = omega (arith, c.requires.2) in
+    let counted : c.log_count-count.result ≡ length logs = c.log_count-count.ensures.0 ∙ count-in c.args.book.now c.args.n c.requires.0 reach in
+    let few : c.log_count-count.result ≤ 1489 = omega (arith, counted, few-logs (take c.args.n c.args.book.now) (opened _ c.requires.0)) in
+    let started : c.start-logs_at.result ≡ start (length logs) = c.start-logs_at.ensures ∙ ap start counted in
+    -- The book is its directory and its logs.
+    let long : c.args.n ≡ c.start-logs_at.result + length (joined logs) = book-long c.args.book.now c.args.n c.requires.0 reach ∙ ap (λ (k : ℕ). k + length (joined logs)) (sym started) in
     (
-      few c.before.before.before.before.before.before.before.before.before.before.before.before.before.before.before.before,
-      omega (arith, long c.before.before.before.before.before.before.before.before.before.before.before.before.before.before.before.before, (begun c.before.before.before.before.before.before.before.before.before.before.before.before.before.before.before.before).requires.1),
+      few,
+      omega (arith, long, c.requires.1),
       omega (
         arith,
-        started c.before.before.before.before.before.before.before.before.before.before.before.before.before.before.before.before,
-        counted c.before.before.before.before.before.before.before.before.before.before.before.before.before.before.before.before,
-        long c.before.before.before.before.before.before.before.before.before.before.before.before.before.before.before.before,
-        (begun c.before.before.before.before.before.before.before.before.before.before.before.before.before.before.before.before).requires.2,
+        started,
+        counted,
+        long,
+        c.requires.2,
         c.book-1.given,
         c.book-2-1.given,
         c.book-3-1.given,
@@ -63,26 +60,35 @@ put_offsets-requires c =
 
 pub overflow_add-count : goal.overflow_add-count
 overflow_add-count c =
-    omega (arith, few c.before.before.before.before.before.before.before.before.before.before.before.before.before.before.before.before.before.before.before.before)
+    let logs = logs_in (take c.args.n c.args.book.now) in
+    let reach : c.args.n ≤ length c.args.book.now = omega (arith, c.requires.2) in
+    let counted : c.log_count-count.result ≡ length logs = c.log_count-count.ensures.0 ∙ count-in c.args.book.now c.args.n c.requires.0 reach in
+    let few : c.log_count-count.result ≤ 1489 = omega (arith, counted, few-logs (take c.args.n c.args.book.now) (opened _ c.requires.0)) in
+    omega (arith, few)
 
 pub returns : goal.returns
 returns c =
-    let s = begun c.before.before.before.before.before.before.before.before.before.before.before.before.before.before.before.before.before.before.before.before.before.before.before in
-    let z = s.args.book.now in
-    let n = s.args.n in
-    let log = s.args.log.now in
-    let is = s.pre.0 in
-    let rest : n - c.start-logs_at.result ≡ length (joined (logs c.before.before.before.before.before.before.before.before.before.before.before.before.before.before.before.before.before.before.before.before.before.before.before)) = omega (arith, long c.before.before.before.before.before.before.before.before.before.before.before.before.before.before.before.before.before.before.before.before.before.before.before) in
-    let z1 = after-log z n is (reach c.before.before.before.before.before.before.before.before.before.before.before.before.before.before.before.before.before.before.before.before.before.before.before) log s.pre.2 in
+    let logs = logs_in (take c.args.n c.args.book.now) in
+    let reach : c.args.n ≤ length c.args.book.now = omega (arith, c.requires.2) in
+    let counted : c.log_count-count.result ≡ length logs = c.log_count-count.ensures.0 ∙ count-in c.args.book.now c.args.n c.requires.0 reach in
+    let started : c.start-logs_at.result ≡ start (length logs) = c.start-logs_at.ensures ∙ ap start counted in
+    -- The book is its directory and its logs.
+    let long : c.args.n ≡ c.start-logs_at.result + length (joined logs) = book-long c.args.book.now c.args.n c.requires.0 reach ∙ ap (λ (k : ℕ). k + length (joined logs)) (sym started) in
+    let z = c.args.book.now in
+    let n = c.args.n in
+    let log = c.args.log.now in
+    let is = c.requires.0 in
+    let rest : n - c.start-logs_at.result ≡ length (joined logs) = omega (arith, long) in
+    let z1 = after-log z n is reach log c.requires.2 in
     let step1 = c.copy_into.ensures.buffer ∙ z1 in
-    let z2 = ap₂ (λ (k m : ℕ). with c.copy_into.new.0 (k + 8) (area c.copy_into.new.0 k m)) (started c.before.before.before.before.before.before.before.before.before.before.before.before.before.before.before.before.before.before.before.before.before.before.before) rest in
-    let step2 = c.move_on.ensures ∙ z2 ∙ after-move z n is (reach c.before.before.before.before.before.before.before.before.before.before.before.before.before.before.before.before.before.before.before.before.before.before.before) log s.pre.2 c.copy_into.new.0 step1 in
+    let z2 = ap₂ (λ (k m : ℕ). with c.copy_into.new.buffer (k + 8) (area c.copy_into.new.buffer k m)) started rest in
+    let step2 = c.move_on.ensures ∙ z2 ∙ after-move z n is reach log c.requires.2 c.copy_into.new.buffer step1 in
     let e : c.entry_bytes-entry.result ≡ entry (n + 8) log = c.entry_bytes-entry.ensures ∙ ap (λ (k : ℕ). k ∷ 0 ∷ two
     (length log) ++ four (n + 8)) c.call_in.ensures in
-    let z3 = ap₂ (λ (k : ℕ) (bs : List ℕ). with c.move_on.new.0 k bs) (started c.before.before.before.before.before.before.before.before.before.before.before.before.before.before.before.before.before.before.before.before.before.before.before) e in
-    let step3 = c.copy_into-2.ensures.buffer ∙ z3 ∙ after-entry z n is (reach c.before.before.before.before.before.before.before.before.before.before.before.before.before.before.before.before.before.before.before.before.before.before.before) log s.pre.2 c.move_on.new.0 step2 in
-    let z4 = ap₂ (λ (k m : ℕ). take 20 c.copy_into-2.new.0 ++ moved (k + 8) m (drop 20 c.copy_into-2.new.0)) (started c.before.before.before.before.before.before.before.before.before.before.before.before.before.before.before.before.before.before.before.before.before.before.before)
-    (counted c.before.before.before.before.before.before.before.before.before.before.before.before.before.before.before.before.before.before.before.before.before.before.before) in
-    let step4 = c.put_offsets.ensures ∙ z4 ∙ after-offsets z n is (reach c.before.before.before.before.before.before.before.before.before.before.before.before.before.before.before.before.before.before.before.before.before.before.before) log s.pre.2 c.copy_into-2.new.0 step3 in
-    let z5 = ap₂ (λ (k m : ℕ). with c.put_offsets.new.0 0 (header (k + 1) (m + length log))) (counted c.before.before.before.before.before.before.before.before.before.before.before.before.before.before.before.before.before.before.before.before.before.before.before) rest in
-    c.put_header.ensures.buffer ∙ z5 ∙ after-header z n is (reach c.before.before.before.before.before.before.before.before.before.before.before.before.before.before.before.before.before.before.before.before.before.before.before) log s.pre.2 c.put_offsets.new.0 step4
+    let z3 = ap₂ (λ (k : ℕ) (bs : List ℕ). with c.move_on.new.book k bs) started e in
+    let step3 = c.copy_into-2.ensures.buffer ∙ z3 ∙ after-entry z n is reach log c.requires.2 c.move_on.new.book step2 in
+    let z4 = ap₂ (λ (k m : ℕ). take 20 c.copy_into-2.new.buffer ++ moved (k + 8) m (drop 20 c.copy_into-2.new.buffer)) started
+    counted in
+    let step4 = c.put_offsets.ensures ∙ z4 ∙ after-offsets z n is reach log c.requires.2 c.copy_into-2.new.buffer step3 in
+    let z5 = ap₂ (λ (k m : ℕ). with c.put_offsets.new.book 0 (header (k + 1) (m + length log))) counted rest in
+    c.put_header.ensures.buffer ∙ z5 ∙ after-header z n is reach log c.requires.2 c.put_offsets.new.book step4

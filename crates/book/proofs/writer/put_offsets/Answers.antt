@@ -34,7 +34,7 @@ pub loop-i-preserved : goal.loop-i-preserved
 loop-i-preserved c =
     let l = c.loop in
     let n = c.args.count in
-    let offset : c.copy_into.new.0 ≡ with l.book (start l.i + 4) (four l.at) = rw
+    let offset : c.copy_into.new.buffer ≡ with l.book (start l.i + 4) (four l.at) = rw
     (c.four_bytes-offset.ensures, c.start.ensures) at c.copy_into.ensures.buffer in (
       omega arith,
       omega (arith, l.invariant.1, c.log_size-size.ensures.1),

@@ -1,5 +1,5 @@
 -- `checks::services::echoed` meets its contract.
-use borrow.Author.Tests.{le-leb, lt-leb, not-true, not-false}
+use borrow.Author.Tests.{le-leb, lt-leb, not-true}
 use Rattle.exchange.proofs.Verdicts.{strict-fails, strict-passes}
 use Rattle.checks.proofs.services.echoed.Goals as goal
 
@@ -15,5 +15,5 @@ returns-then-not-repeats c = rw (
 pub returns : goal.returns
 returns c = rw (
   le-leb _ _ c.if-reply-needed.false,
-  strict-passes c.else-strict.branch (λ w. not-false _ w.1.left) (λ w. w.left),
+  strict-passes c.else-strict.either (λ w. w.1) (λ w. w),
 )

@@ -1,10 +1,11 @@
 -- `checks::services::loaded` meets its contract.
+use borrow.Author.Tests.{le-leb}
 use native.Mathlib.Omega.{arith}
 use mathlib.Core.Bool.{true, false}
 use mathlib.Core.Path.{sym, ◌∙◌}
 use Rattle.rules.specs.Bytes.{value}
 use Rattle.exchange.proofs.Verdicts.{strict-fails, strict-passes}
-use Rattle.checks.proofs.Tests.{less, not-less}
+use Rattle.checks.proofs.Tests.{less}
 use Rattle.checks.proofs.Loading.{over, under}
 use Rattle.checks.proofs.services.loaded.Goals as goal
 
@@ -23,4 +24,4 @@ pub returns-else-strict : goal.returns-else-strict
 returns-else-strict c =
     let x = c.args in
     under x.strict (value x.bytes.now) _ true (sym c.block_length.ensures ∙ c.in-Value.is) (omega arith)
-    (strict-passes c.else-strict.branch (λ w. not-less 3 c.in-Value.v w.1.left) (λ w. w.left))
+    (strict-passes c.else-strict.either (λ w. le-leb _ _ w.1) (λ w. w))

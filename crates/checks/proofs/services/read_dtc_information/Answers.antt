@@ -1,5 +1,6 @@
 -- `checks::services::read_dtc_information` meets its contract.
-use borrow.Author.Tests.{le-leb, lt-leb, not-true, not-false}
+use borrow.Author.Tests.{eq-eqb}
+use borrow.Author.Tests.{le-leb, lt-leb, not-true}
 use Rattle.exchange.proofs.Verdicts.{strict-fails, strict-passes}
 use Rattle.checks.proofs.services.read_dtc_information.Goals as goal
 
@@ -17,5 +18,5 @@ returns-then-reply-ne6 c =
 pub returns : goal.returns
 returns c = rw (
   le-leb _ _ c.if-reply-lt6.false,
-  strict-passes c.else-strict.branch (λ w. not-false _ w.1.left) (λ w. w.left),
+  strict-passes c.else-strict.either (λ w. eq-eqb _ _ w.1) (λ w. w),
 )

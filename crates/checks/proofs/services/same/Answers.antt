@@ -1,18 +1,11 @@
 -- `checks::services::same` meets its contract.
-use Prim.Native.Nat.{ℕ, ◌-◌, ◌≤◌}
+use Prim.Native.Nat.{◌-◌}
 use native.Mathlib.Omega.{arith}
 use mathlib.Core.Bool.{true, false}
-use mathlib.Core.List.{List}
-use mathlib.Core.Path.{◌≡◌, refl, sym, ◌∙◌}
+use mathlib.Core.Path.{refl, sym, ◌∙◌}
 use borrow.Author.Tests.{eq-eqb, ne_eqb}
-use lib.ListN.{length, drop}
-use Rattle.rules.specs.Bytes.{same}
 use Rattle.checks.proofs.Parts.{same_step, same_end, same-lengths}
 use Rattle.checks.proofs.services.same.Goals as goal
-
-record Held (a b : List ℕ) (i : ℕ) : Type 0 where
-  small : i ≤ length a
-  left : same (drop i a) (drop i b) ≡ same a b
 
 pub returns-then-a-b : goal.returns-then-a-b
 returns-then-a-b c = sym (same-lengths c.args.a.now c.args.b.now c.if-a-b.true)

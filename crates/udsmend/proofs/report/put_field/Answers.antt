@@ -11,6 +11,6 @@ returns-then-old-new c =
 pub returns : goal.returns
 returns c =
     let x = c.args in (
-      new-field x.text.now c.put_pair.new.0 x.name.now x.at x.old x.new c.put_pair.result c.if-old-new.false c.put_pair.ensures.put,
+      new-field x.text.now c.put_pair.new.text x.name.now x.at x.old x.new c.put_pair.result c.if-old-new.false c.put_pair.ensures.put,
       omega (arith, c.put_pair.ensures.upper_bound),
     )

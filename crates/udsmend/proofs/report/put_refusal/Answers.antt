@@ -7,22 +7,19 @@ use Rattle.mending.specs.Said.{said}
 use Rattle.udsmend.proofs.Texts.{newline, one-put, one-ends}
 use Rattle.udsmend.proofs.report.put_refusal.Goals as goal
 
-abbrev start : goal.After-put_counted-n → goal.Start
-start c = c.before.before.before.before
-
-ends : (c : goal.After-put_counted-n) → c.put_counted-n.result + 1 ≤ 14
-ends c =
-    let x = (start c).args in
-    one-ends x.text.now c.put_counted-n.new.0 (ascii "refused") 0 x.number c.put_counted-n.result (omega arith) (omega (arith, (start c).requires)) c.put_counted-n.ensures
-
 pub overflow_add-result : goal.overflow_add-result
-overflow_add-result c = omega (arith, ends c.before.before.before.before.before.before.before, (start c.before.before.before.before.before.before.before).requires)
+overflow_add-result c =
+    let ends : c.put_counted-n.result + 1 ≤ 14 = let x = c.args in
+        one-ends x.text.now c.put_counted-n.new.line (ascii "refused") 0 x.number c.put_counted-n.result (omega arith) (omega (arith, c.requires)) c.put_counted-n.ensures in
+    omega (arith, ends, c.requires)
 
 pub returns : goal.returns
 unfolding said
 returns c =
-    let x = (start c.before.before.before.before.before.before.before).args in
+    let ends : c.put_counted-n.result + 1 ≤ 14 = let x = c.args in
+        one-ends x.text.now c.put_counted-n.new.line (ascii "refused") 0 x.number c.put_counted-n.result (omega arith) (omega (arith, c.requires)) c.put_counted-n.ensures in
+    let x = c.args in
     let word = ascii "refused" in
-    newline x.text.now c.put_counted-n.new.0 c.copy_into.new.0 (counted word x.number) 0 c.put_counted-n.result (omega (arith, ends c.before.before.before.before.before.before.before, (start c.before.before.before.before.before.before.before).requires))
-    (one-put x.text.now c.put_counted-n.new.0 word 0 x.number c.put_counted-n.result (omega arith) (omega (arith, (start c.before.before.before.before.before.before.before).requires)) c.put_counted-n.ensures)
+    newline x.text.now c.put_counted-n.new.line c.copy_into.new.buffer (counted word x.number) 0 c.put_counted-n.result (omega (arith, ends, c.requires))
+    (one-put x.text.now c.put_counted-n.new.line word 0 x.number c.put_counted-n.result (omega arith) (omega (arith, c.requires)) c.put_counted-n.ensures)
     c.copy_into.ensures
