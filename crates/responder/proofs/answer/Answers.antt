@@ -21,7 +21,7 @@ returns-then-sub-eq4 c =
     let power = c.byte_at.ensures in
     let four = eq-eqb (get_or q 1 0 % 128) 4 (sym (ap (λ (b : ℕ). b % 128) sub) ∙ c.if-sub-eq4.true) in
     let said = (λ j. 0x51 ∷ sub j % 128 ∷ power j ∷ []) ∙ sym (ap (λ (b : Bool). 0x51 ∷ get_or q 1 0 % 128 ∷ cond b (get_or l 8 0 ∷ []) []) four) in
-    replies l q c.args.reply.now Reset (subst (λ (d : Decision). Decides l q d) c.enum_told-in-Reset-1.given.1 c.requires) tt refl said c.put-then-sub-eq4.ensures
+    replies l q c.args.reply.now Reset (subst (λ (d : Decision). Decides l q d) c.in-Reset.is c.requires) tt refl said c.put-then-sub-eq4.ensures
 
 pub write-requires : goal.write-requires
 write-requires c =
@@ -47,7 +47,7 @@ returns-in-Session c =
     let q = c.args.request.now in
     let sub = c.byte_at-sub.ensures in
     let session = c.part.ensures in
-    replies l q c.args.reply.now Session (subst (λ (d : Decision). Decides l q d) c.enum_told-in-Session-1.given.1 c.requires) tt refl (λ j. 0x50 ∷ sub j % 128 ∷ session j) c.put-in-Session.ensures
+    replies l q c.args.reply.now Session (subst (λ (d : Decision). Decides l q d) c.in-Session.is c.requires) tt refl (λ j. 0x50 ∷ sub j % 128 ∷ session j) c.put-in-Session.ensures
 
 pub returns-else-sub-eq4 : goal.returns-else-sub-eq4
 returns-else-sub-eq4 c =
@@ -72,7 +72,7 @@ returns-in-Count c =
     let mask = c.byte_at-in-Count.ensures in
     let format = c.byte_at-in-Count-2.ensures in
     let n = c.count-n.ensures in
-    replies l q c.args.reply.now Count (subst (λ (d : Decision). Decides l q d) c.enum_told-in-Count-1.given.1 c.requires) tt refl (λ j. 0x59 ∷ 0x01 ∷ mask j ∷ format j ∷ n j / 256 ∷ n j % 256 ∷ []) c.put-in-Count.ensures
+    replies l q c.args.reply.now Count (subst (λ (d : Decision). Decides l q d) c.in-Count.is c.requires) tt refl (λ j. 0x59 ∷ 0x01 ∷ mask j ∷ format j ∷ n j / 256 ∷ n j % 256 ∷ []) c.put-in-Count.ensures
 
 pub returns-in-ReadRecord : goal.returns-in-ReadRecord
 returns-in-ReadRecord c =
@@ -81,7 +81,7 @@ returns-in-ReadRecord c =
     let sub = c.byte_at-sub.ensures in
     let low = c.byte_at-low.ensures in
     let bytes = c.part-in-ReadRecord.ensures in
-    replies l q c.args.reply.now (ReadRecord _ _) (subst (λ (d : Decision). Decides l q d) c.decision-in-ReadRecord-1.given.1 c.requires) tt refl (λ j. 0x62 ∷ sub j ∷ low j ∷ bytes j) c.put-in-ReadRecord.ensures
+    replies l q c.args.reply.now (ReadRecord _ _) (subst (λ (d : Decision). Decides l q d) c.in-ReadRecord.is c.requires) tt refl (λ j. 0x62 ∷ sub j ∷ low j ∷ bytes j) c.put-in-ReadRecord.ensures
 
 pub returns-in-ReadMemory : goal.returns-in-ReadMemory
 returns-in-ReadMemory c =
