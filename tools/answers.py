@@ -12,7 +12,7 @@ import re
 import sys
 
 SEG = r"[^\s(){}.,;@\"\[\]]+"
-WORD = r"[^\s(){}.,;@\"«»\[\]=]+"
+WORD = r"[^\s(){}.,;@\"\[\]=]+"
 
 
 def norm(name):
