@@ -10,7 +10,6 @@ use lib.ListN.{length, get_or, drop, drop_of_length-le}
 use lib.Seq.{drop-cons}
 use Rattle.rules.specs.Bytes.{every}
 use Rattle.book_words.specs.Words.{is_digit, value_from, number_in}
-use Rattle.book_words.specs.declared.Number.{Number}
 use Rattle.book_words.specs.declared.Number.TheVariants.{Is, NoNumber}
 
 -- More digits say no smaller number.

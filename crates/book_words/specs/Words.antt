@@ -1,6 +1,5 @@
 -- The words that `udsbook` is started with, and the command that they are.
 use Rattle.std.specs.Prelude.{ℕ, ◌+◌, ◌-◌, ◌*◌, Bool, cond, ◌&&◌, List, [], ◌∷◌, leb, eqb, length}
-use Prim.Native.String.{String}
 use Rattle.rules.specs.Bytes.{every, same}
 use Rattle.rules.specs.Lines.{ascii}
 use Rattle.book_words.specs.declared.Number.{Number}

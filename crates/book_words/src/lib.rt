@@ -1,9 +1,8 @@
 // The words that `udsbook` is started with, and the command that they are.
 #![tactic(auto)]
-ghost use Rattle.std.specs.Prelude.{◌≡◌};
-ghost use Rattle.book_words.specs.Words.{number_in, find_of, command_of};
 
-use check::same;
+ghost use Rattle.std.specs.Prelude.{◌≡◌, ◌↔◌, IsTrue};
+ghost use Rattle.book_words.specs.Words.{number_in, find_of, command_of};
 
 #[derive(Clone, Copy)]
 pub enum Command {
@@ -61,6 +60,12 @@ fn find_of(call: &[u8], k: &[u8]) -> Command
             Number::Is(i) => Command::Find(c, i),
         },
     }
+}
+
+fn same(a: &[u8], b: &[u8]) -> bool
+    ensures { IsTrue result ↔ (a.now ≡ b.now) }
+{
+    a == b
 }
 
 // The command that so many words are, the program's name among them: the word behind the name, whether there is a file BOOK to read, and the words CALL

@@ -1,8 +1,9 @@
 // log2uds REQUEST REPLY [CALL]: the text of `candump -L` on standard input; on standard output the request and its replies as lines, or, with CALL, a
-// log without events, the log of that call with the events of the text, and the other lines on standard error. A read or a write that fails is the
-// launcher's, `log2uds`.
+// log without events, the log of that call with the events of the text, and the other lines on standard error. A read or a write that fails ends
+// it with an error.
 #![tactic(auto)]
-ghost use Rattle.std.specs.Prelude.{◌+◌, ◌-◌, ◌≤◌, ◌<◌, cond, true, false, not, ◌||◌, ◌∷◌, ◌++◌, [], ◌≡◌, eqb, length, take, drop};
+
+ghost use Rattle.std.specs.Prelude.{◌+◌, ◌-◌, ◌≤◌, ◌<◌, cond, true, false, not, ◌||◌, ◌∷◌, ◌++◌, [], ◌≡◌, IfOk, eqb, length, take, drop};
 ghost use Rattle.imports.specs.Held.{stream_of, written_of};
 ghost use Rattle.log2uds.specs.Streams.{is_reply, noted, shown, left_in, reported, log_shown, log_said};
 ghost use Rattle.log2uds.specs.Runs.{Turned, Ends, Lines, Log};
@@ -10,7 +11,10 @@ ghost use Rattle.log2uds.specs.Runs.{Turned, Ends, Lines, Log};
 use candump::Named;
 use captured::{Captured, capture, is_call};
 use imports::{LOG_ROOM, Outcome, REPLIES_AT, ROOM, Stream};
-use libc::{STDERR_FILENO, STDIN_FILENO, STDOUT_FILENO};
+use std::fs::File;
+use std::io;
+use std::io::{Read, Write};
+use streams::{arg, arg_count, open, read_full, write_full};
 use text::{put_counted, put_item};
 use wire::part;
 
@@ -168,7 +172,8 @@ struct Turn {
 }
 
 // One read. It takes what was read so far, and the buffers that are lent for messages, lines and a log's events.
-fn read_more(
+fn read_more<R: Read>(
+    text: &mut R,
     s: Stream,
     ask: u64,
     answer: u64,
@@ -176,14 +181,14 @@ fn read_more(
     answered: &mut [u8; 4095],
     out: &mut [u8],
     log: &mut [u8; LOG_ROOM],
-) -> Turn
-    ensures { Turned (length out.old) ask answer
+) -> io::Result<Turn>
+    ensures { IfOk result (λ turn. Turned (length out.old) ask answer
         (stream_of s asked.old answered.old out.old log.old)
-        (stream_of result.stream asked.new answered.new out.new log.new) result.ended }
+        (stream_of turn.stream asked.new answered.new out.new log.new) turn.ended) }
 {
-    let mut chunk = io::large_buffer();
-    let n = io::read_full(STDIN_FILENO, &mut chunk);
-    Turn {
+    let mut chunk = [0u8; 65536];
+    let n = read_full(text, &mut chunk)?;
+    Ok(Turn {
         stream: imports::read_on(
             s,
             part(&chunk, 0, n),
@@ -195,7 +200,7 @@ fn read_more(
             log,
         ),
         ended: n == 0,
-    }
+    })
 }
 
 // How many turns are left, and whether the text has ended. (The last turn of all counts as the end.)
@@ -237,31 +242,32 @@ struct Whole {
 
 // The whole text, or so much of it that nothing behind it changes what comes of it. A proved loop has to end, and nothing says that the input does:
 // so it counts its turns down, from a number that no run uses up.
-fn import(
+fn import<R: Read>(
+    text: &mut R,
     ask: u64,
     answer: u64,
     asked: &mut [u8; 4095],
     answered: &mut [u8; 4095],
     out: &mut [u8],
     log: &mut [u8; LOG_ROOM],
-) -> Whole
-    ensures { Ends (length out.old) ask answer result.ended result.outcome out.new log.new }
+) -> io::Result<Whole>
+    ensures { IfOk result (λ whole. Ends (length out.old) ask answer whole.ended whole.outcome out.new log.new) }
 {
     let mut s = imports::begin();
     let mut ended = false;
     let mut turns = u64::MAX;
     while turns > 0 {
-        let turn = read_more(s, ask, answer, asked, answered, out, log);
+        let turn = read_more(text, s, ask, answer, asked, answered, out, log)?;
         s = turn.stream;
         let next = turns_left(turns, turn.ended, imports::settled(s));
         ended = next.ended;
         turns = next.turns;
     }
     let outcome = imports::finish(s, ask, answer, asked, answered, out, log);
-    Whole {
+    Ok(Whole {
         outcome: outcome,
         ended: ended,
-    }
+    })
 }
 
 // What goes to both streams, and whether the text was read to its end.
@@ -273,7 +279,8 @@ struct Imported {
 }
 
 // `log2uds REQUEST REPLY`
-fn import_lines(
+fn import_lines<R: Read>(
+    text: &mut R,
     ask: u64,
     answer: u64,
     asked: &mut [u8; 4095],
@@ -281,21 +288,22 @@ fn import_lines(
     out: &mut [u8],
     log: &mut [u8; LOG_ROOM],
     said: &mut [u8],
-) -> Imported
+) -> io::Result<Imported>
     requires { (length out.old ≡ 272410) × (60 ≤ length said.old) }
-    ensures { Lines ask answer result.ended result.out out.new result.said said.new }
+    ensures { IfOk result (λ r. Lines ask answer r.ended r.out out.new r.said said.new) }
 {
-    let whole = import(ask, answer, asked, answered, out, log);
+    let whole = import(text, ask, answer, asked, answered, out, log)?;
     let outcome = whole.outcome;
-    Imported {
+    Ok(Imported {
         out: put_outcome(outcome, out),
         said: put_left_out(left_out(outcome), said, 0),
         ended: whole.ended,
-    }
+    })
 }
 
 // `log2uds REQUEST REPLY CALL`
-fn import_log(
+fn import_log<R: Read>(
+    text: &mut R,
     ask: u64,
     answer: u64,
     call: &[u8],
@@ -305,34 +313,35 @@ fn import_log(
     log: &mut [u8; LOG_ROOM],
     whole: &mut [u8; 65535],
     said: &mut [u8],
-) -> Imported
+) -> io::Result<Imported>
     requires { (length out.old ≡ 272410) × (272470 ≤ length said.old) }
-    ensures { Log ask answer call.now result.ended result.out whole.new result.said said.new }
+    ensures { IfOk result (λ r. Log ask answer call.now r.ended r.out whole.new r.said said.new) }
 {
-    let text = import(ask, answer, asked, answered, out, log);
-    let outcome = text.outcome;
-    let streams = put_capture(outcome, call, out, log, whole, said);
-    Imported {
-        out: streams.out,
-        said: streams.said,
-        ended: text.ended,
-    }
+    let imported = import(text, ask, answer, asked, answered, out, log)?;
+    let outcome = imported.outcome;
+    let ends = put_capture(outcome, call, out, log, whole, said);
+    Ok(Imported {
+        out: ends.out,
+        said: ends.said,
+        ended: imported.ended,
+    })
 }
 
-fn usage() {
-    io::write_all(
-        STDERR_FILENO,
+fn usage(rt: &HostRuntime) -> io::Result<()> {
+    write_full(
+        &mut rt.stderr(),
         b"usage: log2uds REQUEST REPLY [CALL] < TEXT, identifiers of three hex digits up to 7FF or eight up to 1FFFFFFF, and a log without events\n",
-    );
+    )
 }
 
-fn run(ask: u64, answer: u64) {
+fn run(rt: &HostRuntime, ask: u64, answer: u64) -> io::Result<()> {
     let mut asked = [0u8; 4095];
     let mut answered = [0u8; 4095];
     let mut out = [0u8; ROOM];
     let mut log = [0u8; LOG_ROOM];
     let mut said = [0u8; 60];
     let ends = import_lines(
+        &mut rt.stdin(),
         ask,
         answer,
         &mut asked,
@@ -340,36 +349,37 @@ fn run(ask: u64, answer: u64) {
         &mut out,
         &mut log,
         &mut said,
-    );
-    io::write_all(STDERR_FILENO, part(&said, 0, ends.said));
-    io::write_all(STDOUT_FILENO, part(&out, 0, ends.out));
+    )?;
+    write_full(&mut rt.stderr(), part(&said, 0, ends.said))?;
+    write_full(&mut rt.stdout(), part(&out, 0, ends.out))
 }
 
-// A file to read, by the third word; -1 where there is none.
-fn open_call() -> i32 {
-    let mut path = io::buffer();
-    let n = os::arg(3, &mut path);
-    os::open_read(part(&path, 0, n))
+// A file to read, by the third word.
+fn open_call(rt: &HostRuntime) -> io::Result<File> {
+    let mut path = [0u8; 4096];
+    let n = arg(rt, 3, &mut path).unwrap_or(0);
+    open(rt, part(&path, 0, n))
 }
 
-fn write_log(whole: &[u8; 65535], n: usize) {
-    io::write_all(STDOUT_FILENO, part(whole, 0, n));
-}
-
-fn run_call(ask: u64, answer: u64) {
-    let fd = open_call();
-    if fd < 0 {
-        usage();
-        return;
+// What that file holds, so much of it as the buffer has room for; nothing, which is no call, where it cannot be opened.
+fn read_call(rt: &HostRuntime, call: &mut [u8]) -> io::Result<usize> {
+    match open_call(rt) {
+        Ok(mut file) => read_full(&mut file, call),
+        Err(_) => Ok(0),
     }
+}
+
+fn write_log(rt: &HostRuntime, whole: &[u8; 65535], n: usize) -> io::Result<()> {
+    write_full(&mut rt.stdout(), part(whole, 0, n))
+}
+
+fn run_call(rt: &HostRuntime, ask: u64, answer: u64) -> io::Result<()> {
     // one byte more than the longest log
-    let mut file = io::large_buffer();
-    let n = io::read_full(fd, &mut file);
-    libc::close(fd);
+    let mut file = [0u8; 65536];
+    let n = read_call(rt, &mut file)?;
     let call = part(&file, 0, n);
     if !is_call(call) {
-        usage();
-        return;
+        return usage(rt);
     }
     let mut asked = [0u8; 4095];
     let mut answered = [0u8; 4095];
@@ -378,6 +388,7 @@ fn run_call(ask: u64, answer: u64) {
     let mut whole = [0u8; 65535];
     let mut said = [0u8; SAID_ROOM];
     let ends = import_log(
+        &mut rt.stdin(),
         ask,
         answer,
         call,
@@ -387,35 +398,34 @@ fn run_call(ask: u64, answer: u64) {
         &mut log,
         &mut whole,
         &mut said,
-    );
-    io::write_all(STDERR_FILENO, part(&said, 0, ends.said));
-    write_log(&whole, ends.out);
+    )?;
+    write_full(&mut rt.stderr(), part(&said, 0, ends.said))?;
+    write_log(rt, &whole, ends.out)
 }
 
-fn run_with(ask: u64, answer: u64, words: usize) {
+fn run_with(rt: &HostRuntime, ask: u64, answer: u64, words: usize) -> io::Result<()> {
     if words == 3 {
-        run(ask, answer);
+        run(rt, ask, answer)
     } else {
-        run_call(ask, answer);
+        run_call(rt, ask, answer)
     }
 }
 
-fn main() {
-    let words = os::arg_count();
+fn main(rt: HostRuntime) -> io::Result<()> {
+    let words = arg_count(&rt);
     if words < 3 || words > 4 {
-        usage();
-        return;
+        return usage(&rt);
     }
-    let mut word = io::buffer();
-    let n = os::arg(1, &mut word);
+    let mut word = [0u8; 4096];
+    let n = arg(&rt, 1, &mut word).unwrap_or(0);
     let ask = candump::identifier(part(&word, 0, n));
-    let m = os::arg(2, &mut word);
+    let m = arg(&rt, 2, &mut word).unwrap_or(0);
     let answer = candump::identifier(part(&word, 0, m));
     match ask {
         Named::Id(request) => match answer {
-            Named::Id(reply) => run_with(request, reply, words),
-            Named::Nothing => usage(),
+            Named::Id(reply) => run_with(&rt, request, reply, words),
+            Named::Nothing => usage(&rt),
         },
-        Named::Nothing => usage(),
+        Named::Nothing => usage(&rt),
     }
 }

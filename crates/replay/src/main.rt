@@ -1,10 +1,13 @@
 // Replays the lists of data/ and prints how many lines of each are right. In `NAME.bin` each case stands after its length as u32, big-endian;
 // `NAME.expected` has the line of each.
 #![tactic(auto)]
+
 use blocks::Cut;
 use faults::Found;
 use lengths::Number;
-use libc::STDOUT_FILENO;
+use std::io;
+use std::io::Read;
+use streams::{open, read_full};
 use text::{Written, put_line};
 use wire::part;
 
@@ -34,38 +37,38 @@ enum Byte {
     End,
 }
 
-fn read_byte(fd: i32) -> Byte {
+fn read_byte<R: Read>(file: &mut R) -> io::Result<Byte> {
     let mut byte = [0u8; 1];
-    if io::read_full(fd, &mut byte) == 0 {
-        return Byte::End;
+    if read_full(file, &mut byte)? == 0 {
+        return Ok(Byte::End);
     }
-    Byte::Next(byte[0])
+    Ok(Byte::Next(byte[0]))
 }
 
 // Reads up to a newline, which is kept, or to the end of the file or of the buffer.
-fn read_line(fd: i32, line: &mut [u8]) -> usize {
+fn read_line<R: Read>(file: &mut R, line: &mut [u8]) -> io::Result<usize> {
     let mut n = 0;
     while n < line.len() {
-        match read_byte(fd) {
+        match read_byte(file)? {
             Byte::Next(byte) => {
                 line[n] = byte;
                 n += 1;
                 if byte == b'\n' {
-                    return n;
+                    return Ok(n);
                 }
             }
-            Byte::End => return n,
+            Byte::End => return Ok(n),
         }
     }
-    n
+    Ok(n)
 }
 
 // Reads n bytes to the buffer's front, and answers whether it could.
-fn read_exactly(fd: i32, buffer: &mut [u8], n: usize) -> bool {
+fn read_exactly<R: Read>(file: &mut R, buffer: &mut [u8], n: usize) -> io::Result<bool> {
     if n > buffer.len() {
-        return false;
+        return Ok(false);
     }
-    io::read_full(fd, &mut buffer[..n]) == n
+    Ok(read_full(file, &mut buffer[..n])? == n)
 }
 
 // Data whose bytes count up to 250 and begin again, so that a block shows where it was cut.
@@ -310,33 +313,33 @@ enum Replayed {
 }
 
 // The next case and its line; the end where both files are read. A file that ends early gives wrong lines.
-fn replay_one(list: List, cases: i32, lines: i32) -> Replayed {
+fn replay_one<R: Read, S: Read>(list: List, cases: &mut R, lines: &mut S) -> io::Result<Replayed> {
     let mut head = [0u8; 4];
-    let got = io::read_full(cases, &mut head);
+    let got = read_full(cases, &mut head)?;
     let mut expected = [0u8; LONGEST_LINE];
-    let n = read_line(lines, &mut expected);
+    let n = read_line(lines, &mut expected)?;
     if got == 0 && n == 0 {
-        return Replayed::End;
+        return Ok(Replayed::End);
     }
     if got < 4 {
-        return Replayed::Wrong;
+        return Ok(Replayed::Wrong);
     }
     // with room for a log that is too long
     let mut case = [0u8; 131072];
     let len = wire::u32_at(&head, 0) as usize;
-    if !read_exactly(cases, &mut case, len) {
-        return Replayed::Wrong;
+    if !read_exactly(cases, &mut case, len)? {
+        return Ok(Replayed::Wrong);
     }
     let mut line = [0u8; LONGEST_LINE];
     match line_of(list, part(&case, 0, len), &mut line) {
         Written::Line(m) => {
-            if check::same(part(&line, 0, m), part(&expected, 0, n)) {
-                Replayed::Right
+            if part(&line, 0, m) == part(&expected, 0, n) {
+                Ok(Replayed::Right)
             } else {
-                Replayed::Wrong
+                Ok(Replayed::Wrong)
             }
         }
-        Written::NoRoom => Replayed::Wrong,
+        Written::NoRoom => Ok(Replayed::Wrong),
     }
 }
 
@@ -347,60 +350,77 @@ struct Tally {
 }
 
 // A proved loop has to end, and nothing says that a file does: the loop counts its turns down from a number that no list uses up.
-fn replay(list: List, cases: i32, lines: i32) -> Tally {
+fn replay<R: Read, S: Read>(list: List, cases: &mut R, lines: &mut S) -> io::Result<Tally> {
     let mut right: u64 = 0;
     let mut wrong: u64 = 0;
     let mut turns = u32::MAX;
     while turns > 0 {
-        match replay_one(list, cases, lines) {
+        match replay_one(list, cases, lines)? {
             Replayed::Right => right += 1,
             Replayed::Wrong => wrong += 1,
             Replayed::End => break,
         }
         turns -= 1;
     }
-    Tally { right, wrong }
+    Ok(Tally { right, wrong })
 }
 
-fn say(name: &[u8], tally: Tally) {
-    io::write_all(STDOUT_FILENO, name);
-    io::write_all(STDOUT_FILENO, b": ");
-    io::print_decimal(STDOUT_FILENO, tally.right);
-    io::write_all(STDOUT_FILENO, b" right, ");
-    io::print_decimal(STDOUT_FILENO, tally.wrong);
-    io::write_all(STDOUT_FILENO, b" wrong\n");
+fn say(rt: &impl Print, name: &str, tally: Tally) -> io::Result<()> {
+    println!(rt; "{name}: {} right, {} wrong", tally.right, tally.wrong)
 }
 
 // A list of these cases, in two files.
-fn play(name: &[u8], list: List, cases: &[u8], lines: &[u8]) {
-    let cases = os::open_read(cases);
-    let lines = os::open_read(lines);
-    say(name, replay(list, cases, lines));
+fn play(rt: &HostRuntime, name: &str, list: List, cases: &[u8], lines: &[u8]) -> io::Result<()> {
+    let mut cases = open(rt, cases)?;
+    let mut lines = open(rt, lines)?;
+    say(rt, name, replay(list, &mut cases, &mut lines)?)
 }
 
-fn main() {
-    play(b"logs", List::Logs, b"logs.bin", b"logs.expected");
+fn main(rt: HostRuntime) -> io::Result<()> {
+    play(&rt, "logs", List::Logs, b"logs.bin", b"logs.expected")?;
     play(
-        b"listings",
+        &rt,
+        "listings",
         List::Logs,
         b"listings.bin",
         b"listings.expected",
-    );
-    play(b"blocks", List::Blocks, b"blocks.bin", b"blocks.expected");
-    play(b"names", List::Names, b"names.bin", b"names.expected");
-    play(b"memory", List::Memory, b"memory.bin", b"memory.expected");
-    play(b"alfid", List::Alfid, b"alfid.bin", b"alfid.expected");
+    )?;
     play(
-        b"selections",
+        &rt,
+        "blocks",
+        List::Blocks,
+        b"blocks.bin",
+        b"blocks.expected",
+    )?;
+    play(&rt, "names", List::Names, b"names.bin", b"names.expected")?;
+    play(
+        &rt,
+        "memory",
+        List::Memory,
+        b"memory.bin",
+        b"memory.expected",
+    )?;
+    play(&rt, "alfid", List::Alfid, b"alfid.bin", b"alfid.expected")?;
+    play(
+        &rt,
+        "selections",
         List::Selections,
         b"selections.bin",
         b"selections.expected",
-    );
-    play(b"limits", List::Limits, b"limits.bin", b"limits.expected");
+    )?;
     play(
-        b"addressed",
+        &rt,
+        "limits",
+        List::Limits,
+        b"limits.bin",
+        b"limits.expected",
+    )?;
+    play(
+        &rt,
+        "addressed",
         List::Logs,
         b"addressed.bin",
         b"addressed.expected",
-    );
+    )?;
+    Ok(())
 }

@@ -1,31 +1,38 @@
 // A worked path from a session to a download and its transfers: the timing that the session gave, the block length that call 11 returned, the blocks cut,
 // each sent by call 13 with its counter and answered.
 #![tactic(auto)]
+
 use blocks::Cut;
 use calls::{Answered, Ask};
 use exchange::types::{Channel, Form, NoticeLimit, RequestTimeout, Timing};
-use libc::STDOUT_FILENO;
 use log_line::answers::put_answer;
 use requests::{Call, Data};
+use std::io;
 use text::{LONGEST, Written};
 use uds::UDSClient;
 
-fn say(text: &[u8]) {
-    io::write_all(STDOUT_FILENO, text);
+fn say(rt: &impl Print, text: &[u8]) -> io::Result<()> {
+    rt.write_all(text)
 }
 
 // The line of an answer.
-fn show(answered: Answered, replies: &[u8]) {
+fn show(rt: &impl Print, answered: Answered, replies: &[u8]) -> io::Result<()> {
     let mut line = [0u8; LONGEST];
     let answer = answered.answer;
     match put_answer(&mut line, answer, replies) {
-        Written::Line(n) => say(wire::part(&line, 0, n)),
-        Written::NoRoom => {}
+        Written::Line(n) => say(rt, wire::part(&line, 0, n)),
+        Written::NoRoom => Ok(()),
     }
 }
 
 // Block k of the data, sent with its counter; the controller echoes it after 12 ms.
-fn transfer(client: UDSClient, data: &[u8], length: u64, k: u64) {
+fn transfer(
+    rt: &impl Print,
+    client: UDSClient,
+    data: &[u8],
+    length: u64,
+    k: u64,
+) -> io::Result<()> {
     match blocks::counter(data, length, k) {
         Cut::Counter(counter) => {
             let block = blocks::block(data, length, k);
@@ -40,23 +47,17 @@ fn transfer(client: UDSClient, data: &[u8], length: u64, k: u64) {
                 &events,
                 &replies,
             );
-            say(b"block ");
-            io::print_decimal(STDOUT_FILENO, counter as u64);
-            say(b" ");
-            say(wire::part(&request, 2, block.len()));
-            say(b": ");
-            show(answered, &replies);
+            print!(rt; "block {counter} ")?;
+            say(rt, wire::part(&request, 2, block.len()))?;
+            say(rt, b": ")?;
+            show(rt, answered, &replies)
         }
-        Cut::Refused(number) => {
-            say(b"no further block: refused ");
-            io::print_decimal(STDOUT_FILENO, number as u64);
-            say(b"\n");
-        }
+        Cut::Refused(number) => { println!(rt; "no further block: refused {number}") }
     }
 }
 
 // Who answers: a record of the controller's, handed out as a part of the reply bytes.
-fn identify() {
+fn identify(rt: &impl Print) -> io::Result<()> {
     let session = Timing { p2: 50, star: 5000 };
     let ask = Ask {
         call: Call::ReadDataByIdentifier(0xf18a),
@@ -83,29 +84,29 @@ fn identify() {
         &events,
         &replies,
     );
-    say(b"controller: ");
-    say(record);
-    say(b"\n");
+    say(rt, b"controller: ")?;
+    say(rt, record)?;
+    say(rt, b"\n")
 }
 
 // An extended session, whose answer has a P2 of 25 ms; then silence, which ends at that time.
-fn open(client: UDSClient) -> UDSClient {
+fn open(rt: &impl Print, client: UDSClient) -> io::Result<UDSClient> {
     let mut request = [0u8; 64];
     let events = [0, 0, 0, 5, 0, 0, 0, 0, 0, 6];
     let replies = [0x50, 0x03, 0x00, 0x19, 0x01, 0xf4];
     let opened = client.diagnostic_session_control(3, &mut request, &events, &replies);
-    say(b"session: ");
-    show(opened, &replies);
+    say(rt, b"session: ")?;
+    show(rt, opened, &replies)?;
     let behind = client.after(opened);
-    say(b"silence: ");
-    show(behind.tester_present(&mut request, b"", b""), b"");
-    behind
+    say(rt, b"silence: ")?;
+    show(rt, behind.tester_present(&mut request, b"", b""), b"")?;
+    Ok(behind)
 }
 
-fn main() {
-    identify();
+fn main(rt: HostRuntime) -> io::Result<()> {
+    identify(&rt)?;
     let data = b"Bintrochis";
-    let client = open(UDSClient::new());
+    let client = open(&rt, UDSClient::new())?;
     let mut request = [0u8; 64];
     let events = [0, 0, 0, 10, 0, 0, 0, 0, 0, 3];
     // the controller takes requests of six bytes: SID, counter and four bytes of data
@@ -119,11 +120,11 @@ fn main() {
         &events,
         &replies,
     );
-    say(b"download: ");
-    show(started, &replies);
+    say(&rt, b"download: ")?;
+    show(&rt, started, &replies)?;
     let length = started.number;
-    transfer(client, data, length, 0);
-    transfer(client, data, length, 1);
-    transfer(client, data, length, 2);
-    transfer(client, data, length, 3);
+    transfer(&rt, client, data, length, 0)?;
+    transfer(&rt, client, data, length, 1)?;
+    transfer(&rt, client, data, length, 2)?;
+    transfer(&rt, client, data, length, 3)
 }

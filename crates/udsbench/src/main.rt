@@ -1,11 +1,15 @@
 // udsbench STORE: plays the server end. Each line of standard input is a request, and each gets exactly one line, as soon as it has come.
+// A read of standard input or a write that fails ends it with an error.
 #![tactic(auto)]
-ghost use Rattle.std.specs.Prelude.{◌-◌, ◌≤◌, ◌≡◌, length, take};
+
+ghost use Rattle.std.specs.Prelude.{◌-◌, ◌≤◌, ◌≡◌, IfOk, length, take};
 ghost use Rattle.bench.specs.Talk.{talk};
 ghost use Rattle.udsbench.specs.Hearing.{bench, heard, hearing, Heard, Keeps, Fills};
 
 use bench_line::{LONGEST, answer_line};
-use libc::{STDERR_FILENO, STDIN_FILENO, STDOUT_FILENO};
+use std::io;
+use std::io::{Read, Write};
+use streams::{arg, arg_count, open, write_full};
 use text::Written;
 use wire::part;
 
@@ -24,41 +28,53 @@ fn line_of(store: &mut [u8], asked: &[u8], line: &mut [u8]) -> usize
     }
 }
 
-fn answer(store: &mut [u8], asked: &[u8])
+fn answer<W: Write>(store: &mut [u8], asked: &[u8], lines: &mut W) -> io::Result<()>
     ensures { store.new ≡ (talk store.old asked.now).store }
 {
     let mut line = [0u8; LONGEST];
     let n = line_of(store, asked, &mut line);
-    io::write_all(STDOUT_FILENO, part(&line, 0, n));
+    write_full(lines, part(&line, 0, n))
 }
 
 // One byte more: it ends the line, which is answered; or it is kept. The answer is how much of the line is kept.
-fn hear_byte(store: &mut [u8], byte: u8, kept: &mut [u8], len: usize) -> usize
+fn hear_byte<W: Write>(
+    store: &mut [u8],
+    byte: u8,
+    kept: &mut [u8],
+    len: usize,
+    lines: &mut W,
+) -> io::Result<usize>
     requires { (length kept.old ≡ 8197) × (len ≤ 8197) }
-    ensures { Heard (heard (bench store.old (take len kept.old)) byte) store.new kept.new result }
+    ensures { IfOk result (λ n. Heard (heard (bench store.old (take len kept.old)) byte) store.new kept.new n) }
 {
     if byte == b'\n' {
-        answer(store, part(kept, 0, len));
-        return 0;
+        answer(store, part(kept, 0, len), lines)?;
+        return Ok(0);
     }
     if len >= kept.len() {
-        return len;
+        return Ok(len);
     }
     kept[len] = byte;
-    len + 1
+    Ok(len + 1)
 }
 
-fn hear(store: &mut [u8], input: &[u8], kept: &mut [u8], len: usize) -> usize
+fn hear<W: Write>(
+    store: &mut [u8],
+    input: &[u8],
+    kept: &mut [u8],
+    len: usize,
+    lines: &mut W,
+) -> io::Result<usize>
     requires { (length kept.old ≡ 8197) × (len ≤ 8197) }
-    ensures { Heard (hearing (bench store.old (take len kept.old)) input.now) store.new kept.new result }
+    ensures { IfOk result (λ n. Heard (hearing (bench store.old (take len kept.old)) input.now) store.new kept.new n) }
 {
     let mut n = len;
     let mut i = 0;
     while i < input.len() {
-        n = hear_byte(store, input[i], kept, n);
+        n = hear_byte(store, input[i], kept, n, lines)?;
         i += 1;
     }
-    n
+    Ok(n)
 }
 
 // How much of a line is kept; or the input has ended.
@@ -68,49 +84,63 @@ enum Input {
     End,
 }
 
-fn read_on(store: &mut [u8], kept: &mut [u8], len: usize) -> Input
+fn read_on<R: Read, W: Write>(
+    store: &mut [u8],
+    kept: &mut [u8],
+    len: usize,
+    requests: &mut R,
+    lines: &mut W,
+) -> io::Result<Input>
     requires { (length kept.old ≡ 8197) × (len ≤ 8197) }
-    ensures { (length kept.new ≡ 8197) × Keeps result }
+    ensures { IfOk result (λ next. (length kept.new ≡ 8197) × Keeps next) }
 {
-    let mut input = io::buffer();
-    let got = libc::read(STDIN_FILENO, &mut input);
-    if got <= 0 {
-        return Input::End;
+    let mut input = [0u8; 4096];
+    let n = requests.read(&mut input)?;
+    if n == 0 {
+        return Ok(Input::End);
     }
-    let n = io::count(got, &input);
-    Input::More(hear(store, &input[..n], kept, len))
+    Ok(Input::More(hear(store, &input[..n], kept, len, lines)?))
 }
 
 // A proved loop has to end, and nothing says that the input does: so it counts its turns down, from a number that no run uses up. The last line may
 // lack its LF.
-fn listen(store: &mut [u8], kept: &mut [u8])
+fn listen<R: Read, W: Write>(
+    store: &mut [u8],
+    kept: &mut [u8],
+    requests: &mut R,
+    lines: &mut W,
+) -> io::Result<()>
     requires { length kept.old ≡ 8197 }
 {
     let mut len = 0;
     let mut turns = u64::MAX;
     while turns > 0 {
-        match read_on(store, kept, len) {
+        match read_on(store, kept, len, requests, lines)? {
             Input::More(n) => {
                 len = n;
             }
             Input::End => {
                 if len > 0 {
-                    answer(store, part(kept, 0, len));
+                    answer(store, part(kept, 0, len), lines)?;
                 }
-                return;
+                return Ok(());
             }
         }
         turns -= 1;
     }
+    Ok(())
 }
 
-fn talk_over(store: &mut [u8]) {
+fn talk_over<R: Read, W: Write>(
+    store: &mut [u8],
+    requests: &mut R,
+    lines: &mut W,
+) -> io::Result<()> {
     if !stores::sound(store) {
-        io::write_all(STDOUT_FILENO, b"badstore\n");
-        return;
+        return write_full(lines, b"badstore\n");
     }
     let mut kept = [0u8; KEPT];
-    listen(store, &mut kept);
+    listen(store, &mut kept, requests, lines)
 }
 
 // How many bytes of a file were read; or it cannot be read.
@@ -121,24 +151,23 @@ enum Loaded {
 }
 
 // One read, behind the first `at` bytes: how many there are now, none more at the file's end.
-fn load_more(fd: i32, file: &mut [u8], at: usize) -> Loaded
+fn load_more<R: Read>(from: &mut R, file: &mut [u8], at: usize) -> Loaded
     requires { at ≤ length file.old }
     ensures { Fills result (length file.old - at) }
 {
-    let got = libc::read(fd, &mut file[at..]);
-    if got < 0 {
-        return Loaded::Failed;
+    match from.read(&mut file[at..]) {
+        Ok(n) => Loaded::Bytes(n),
+        Err(_) => Loaded::Failed,
     }
-    Loaded::Bytes(io::count(got, &file[at..]))
 }
 
 // Reads until the buffer is full or the file ends.
-fn load(fd: i32, file: &mut [u8]) -> Loaded
+fn load<R: Read>(from: &mut R, file: &mut [u8]) -> Loaded
     ensures { Fills result (length file.old) }
 {
     let mut n = 0;
     while n < file.len() {
-        match load_more(fd, file, n) {
+        match load_more(from, file, n) {
             Loaded::Failed => return Loaded::Failed,
             Loaded::Bytes(more) => {
                 if more == 0 {
@@ -152,34 +181,38 @@ fn load(fd: i32, file: &mut [u8]) -> Loaded
 }
 
 // The talk over what was loaded.
-fn play(file: &mut [u8], loaded: Loaded)
+fn play(rt: &HostRuntime, file: &mut [u8], loaded: Loaded) -> io::Result<()>
     requires { Fills loaded (length file.old) }
 {
     match loaded {
-        Loaded::Bytes(n) => talk_over(&mut file[..n]),
-        Loaded::Failed => usage(),
+        Loaded::Bytes(n) => talk_over(&mut file[..n], &mut rt.stdin(), &mut rt.stdout()),
+        Loaded::Failed => usage(rt),
     }
 }
 
-fn usage() {
-    io::write_all(STDERR_FILENO, b"usage: udsbench STORE\n");
+fn usage(rt: &HostRuntime) -> io::Result<()> {
+    write_full(&mut rt.stderr(), b"usage: udsbench STORE\n")
 }
 
-fn main() {
-    let mut path = io::buffer();
-    let length = os::arg(1, &mut path);
-    if os::errno() != 0 || os::arg_count() != 2 {
-        usage();
-        return;
+// What the file of this path holds, which is closed then.
+fn load_path(rt: &HostRuntime, path: &[u8], file: &mut [u8]) -> Loaded
+    ensures { Fills result (length file.old) }
+{
+    match open(rt, path) {
+        Ok(mut from) => load(&mut from, file),
+        Err(_) => Loaded::Failed,
     }
-    let fd = os::open_read(&path[..length]);
-    if fd < 0 {
-        usage();
-        return;
-    }
+}
+
+fn main(rt: HostRuntime) -> io::Result<()> {
+    let mut path = [0u8; 4096];
     // one byte more than the longest store
-    let mut file = io::large_buffer();
-    let loaded = load(fd, &mut file);
-    libc::close(fd);
-    play(&mut file, loaded);
+    let mut file = [0u8; 65536];
+    match arg(&rt, 1, &mut path) {
+        Some(length) if arg_count(&rt) == 2 => {
+            let loaded = load_path(&rt, &path[..length], &mut file);
+            play(&rt, &mut file, loaded)
+        }
+        _ => usage(&rt),
+    }
 }

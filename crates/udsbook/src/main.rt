@@ -1,5 +1,6 @@
-// A book of logs: an empty one, one with a log more, a log of it, and its summary as text. A read or a write that fails is the launcher's, `udsbook`.
+// A book of logs: an empty one, one with a log more, a log of it, and its summary as text. A read or a write that fails ends it with an error.
 #![tactic(auto)]
+
 ghost use Rattle.std.specs.Prelude.{◌≤◌, [], ◌≡◌, length, take};
 ghost use Rattle.book_words.specs.declared.Command.TheVariants as command;
 ghost use Rattle.udsbook.specs.Streams.{Answers};
@@ -8,7 +9,9 @@ use book::summary::{COUNTERS, Summed, summarize};
 use book::{Added, Found, add, begin, find};
 use book_text::{LONGEST, SHORT, put_added, put_refusal, put_summary, put_usage};
 use book_words::{Command, command_of};
-use libc::{STDERR_FILENO, STDIN_FILENO, STDOUT_FILENO};
+use std::io;
+use std::io::Read;
+use streams::{arg, arg_count, open, read_full, write_full};
 use wire::part;
 
 // What is for standard output, so many bytes from an index on of the buffer that the book was read to; and how many bytes at the other's front are for
@@ -127,34 +130,42 @@ fn answer(
 }
 
 // Only `add` has a log to read.
-fn read_log(command: Command, log: &mut [u8]) -> usize {
+fn read_log<R: Read>(command: Command, input: &mut R, log: &mut [u8]) -> io::Result<usize> {
     match command {
-        Command::Add => io::read_full(STDIN_FILENO, log),
-        _ => 0,
+        Command::Add => read_full(input, log),
+        _ => Ok(0),
     }
 }
 
-fn main() {
-    let mut word = io::buffer();
-    let mut path = io::buffer();
-    let mut call = io::buffer();
-    let mut k = io::buffer();
-    let word_len = os::arg(1, &mut word);
-    let path_len = os::arg(2, &mut path);
-    let call_len = os::arg(3, &mut call);
-    let k_len = os::arg(4, &mut k);
-    let fd = os::open_read(part(&path, 0, path_len));
+// A book that cannot be opened has no bytes.
+fn read_book<R: Read + Drop>(file: Option<R>, book: &mut [u8]) -> io::Result<usize> {
+    match file {
+        Some(mut file) => read_full(&mut file, book),
+        None => Ok(0),
+    }
+}
+
+fn main(rt: HostRuntime) -> io::Result<()> {
+    let mut word = [0u8; 4096];
+    let mut path = [0u8; 4096];
+    let mut call = [0u8; 4096];
+    let mut k = [0u8; 4096];
+    let word_len = arg(&rt, 1, &mut word).unwrap_or(0);
+    let path_len = arg(&rt, 2, &mut path).unwrap_or(0);
+    let call_len = arg(&rt, 3, &mut call).unwrap_or(0);
+    let k_len = arg(&rt, 4, &mut k).unwrap_or(0);
+    let file = open(&rt, part(&path, 0, path_len)).ok();
     let command = command_of(
-        os::arg_count(),
+        arg_count(&rt),
         part(&word, 0, word_len),
-        fd >= 0,
+        file.is_some(),
         part(&call, 0, call_len),
         part(&k, 0, k_len),
     );
     let mut book = [0u8; LONGEST];
-    let n = io::read_full(fd, &mut book);
-    let mut log = io::large_buffer();
-    let m = read_log(command, &mut log);
+    let n = read_book(file, &mut book)?;
+    let mut log = [0u8; 65536];
+    let m = read_log(command, &mut rt.stdin(), &mut log)?;
     let mut summary = [0u16; COUNTERS];
     let mut said = [0u8; SHORT];
     let ends = answer(
@@ -165,6 +176,6 @@ fn main() {
         &mut summary,
         &mut said,
     );
-    io::write_all(STDOUT_FILENO, part(&book, ends.at, ends.out));
-    io::write_all(STDERR_FILENO, part(&said, 0, ends.said));
+    write_full(&mut rt.stdout(), part(&book, ends.at, ends.out))?;
+    write_full(&mut rt.stderr(), part(&said, 0, ends.said))
 }

@@ -1,9 +1,11 @@
-// Reads one log from standard input and prints its line. A read or a write that fails is the launcher's, `udslog`.
+// Reads one log from standard input and prints its line. A read or a write that fails ends it with an error.
 #![tactic(auto)]
+
 ghost use Rattle.std.specs.Prelude.{◌≤◌, ◌≡◌, length, take};
 ghost use Rattle.rules.specs.Logs.{line_of};
 
-use libc::{STDIN_FILENO, STDOUT_FILENO};
+use std::io;
+use streams::{read_full, write_full};
 use text::{LONGEST, Written};
 use wire::part;
 
@@ -18,11 +20,11 @@ fn line_of(input: &[u8], n: usize, line: &mut [u8]) -> usize
     }
 }
 
-fn main() {
+fn main(rt: HostRuntime) -> io::Result<()> {
     // one byte more than the longest log: input that fills it is not as long as its header says, so it is a bad log
-    let mut input = io::large_buffer();
-    let n = io::read_full(STDIN_FILENO, &mut input);
+    let mut input = [0u8; 65536];
+    let n = read_full(&mut rt.stdin(), &mut input)?;
     let mut line = [0u8; LONGEST];
     let m = line_of(&input, n, &mut line);
-    io::write_all(STDOUT_FILENO, part(&line, 0, m));
+    write_full(&mut rt.stdout(), part(&line, 0, m))
 }

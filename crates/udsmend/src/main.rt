@@ -1,12 +1,14 @@
 // Reads a damaged log from standard input; writes the mended one to standard output, and what was mended to standard error. A read or a write
-// that fails is the launcher's, `udsmend`.
+// that fails ends it with an error.
 #![tactic(auto)]
+
 ghost use Rattle.std.specs.Prelude.{◌≤◌, length};
 ghost use Rattle.udsmend.specs.Streams.{Holds};
 
-use libc::{STDERR_FILENO, STDIN_FILENO, STDOUT_FILENO};
 use mend::{Mended, mend};
 use report::{LONGEST, put_refusal, put_report};
+use std::io;
+use streams::{read_full, write_full};
 use wire::part;
 
 mod report;
@@ -36,12 +38,12 @@ fn mend_input(input: &[u8], n: usize, out: &mut [u8], said: &mut [u8]) -> Stream
     }
 }
 
-fn main() {
-    let mut input = io::large_buffer();
-    let n = io::read_full(STDIN_FILENO, &mut input);
-    let mut out = io::large_buffer();
+fn main(rt: HostRuntime) -> io::Result<()> {
+    let mut input = [0u8; 65536];
+    let n = read_full(&mut rt.stdin(), &mut input)?;
+    let mut out = [0u8; 65536];
     let mut said = [0u8; LONGEST];
     let ends = mend_input(&input, n, &mut out, &mut said);
-    io::write_all(STDOUT_FILENO, part(&out, 0, ends.out));
-    io::write_all(STDERR_FILENO, part(&said, 0, ends.said));
+    write_full(&mut rt.stdout(), part(&out, 0, ends.out))?;
+    write_full(&mut rt.stderr(), part(&said, 0, ends.said))
 }
