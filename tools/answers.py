@@ -12,7 +12,7 @@ import re
 import sys
 
 SEG = r"[^\s(){}.,;@\"\[\]]+"
-WORD = r"[^\s(){}.,;@\"«»\[\]=]+"
+WORD = r"[^\s(){}.,;@\"\[\]=]+"
 
 
 def norm(name):
@@ -73,6 +73,7 @@ class Turn:
         self.locals = {}
         self.helpers = {}
         self.wants = set()
+        self.roots = {}
 
     def nested(self, text, env):
         """A record handed through words that give places: how long it is, and what it is of."""
@@ -159,7 +160,8 @@ class Turn:
             if s == "args" and len(rest) > 1:
                 rest[1] = rest[1].replace("-", "_")
             return var + "." + ".".join(rest), None
-        found = self.step(at, s) or self.step(place, s)
+        # the old names are one for each step, so the step is found from where the goal stands
+        found = self.step(self.roots.get(var, at), s) or self.step(at, s) or self.step(place, s)
         if found is None:
             self.left.append(f"{var}.{'.'.join(segs)}: no step {s} at {at}")
             return var + "." + ".".join(rest), None
@@ -176,7 +178,7 @@ class Turn:
         if arm:
             return ".".join([var, arm[0], arm[1], *rest[1 + len(arm[2]) :]]), None
         tail = rest[1:]
-        if tail and new.startswith(("if-", "loop-")) and tail[0] in ("left", "taken"):
+        if tail and not p[0].startswith("Joined") and new.startswith(("if-", "loop-")) and tail[0] in ("left", "taken"):
             tail = [{"left": "false", "taken": "true"}[tail[0]]] + tail[1:]
         if len(tail) > 1 and tail[0] in ("new", "auto", "last") and p[3] in self.x["params"]:
             k = 0
@@ -207,6 +209,7 @@ class Turn:
 
     def body(self, text, env):
         """The text of an answer. env: the records by their names, each with the name that it stands for, how far above it and its place."""
+        self.roots = dict(env)
         env = {k: (k, 0, v) for k, v in env.items()}
         pos, out = 0, []
         path = re.compile(r"(?:\(((?:" + SEG + r")) ([^()]*)\)|(?<![\w.'₀-₉-])(" + SEG + r"))((?:\." + SEG + r")*)")
@@ -563,7 +566,7 @@ def turn(crate, names, where, fn):
         sig, rest, unfolding = parts_of(name, lines)
         if "tie.Need" in sig or "tie.spec" in rest or "tie.close" in rest or re.search(r":\s*tie\.(invariant|decreases)", sig) or name in t.returns:
             continue
-        m = re.match(r"(?:(?:pub|abbrev|unfoldable)\s+)*" + re.escape(name) + r"\s*:\s*(?:\((" + SEG + r")\s*:\s*)?tie\.(" + SEG + r")((?:\s+(?:invariant|decreases)[^\s)→]*)*)\)?\s*→\s*(.*)$", sig, re.S)
+        m = re.match(r"(?:(?:pub|abbrev|unfoldable)\s+)*" + re.escape(name) + r"\s*:\s*(?:\((" + SEG + r")\s*:\s*)?tie\.(" + SEG + r")((?:\s+(?:invariant|decreases)[^\s)→]*)*)\)?\s*(?:→\s*|(?=\())(.*)$", sig, re.S)
         c = re.match(re.escape(name) + r"((?:\s+" + WORD + r")+)\s*=(.*)", rest, re.S)
         if m and c and not re.search(r"^" + re.escape(name) + r"\s", c[2], re.M):
             params = c[1].split()

@@ -10,8 +10,7 @@ use numbers::numbers;
 
 // `bintrochis_door_call` for these forms: "address and size as 64-bit numbers, each with a width in bytes", and the
 // wide setting.
-#[unsafe(no_mangle)]
-pub extern "C" fn bintrochis_door_call_alfid(
+pub fn bintrochis_door_call_alfid(
     call: u8,
     flags: u8,
     value: u16,

@@ -10,8 +10,7 @@ use log_call::{Fields, ask_of};
 use state_numbers::told;
 
 // `bintrochis_door_begin` for what `bintrochis_door_call_alfid` takes.
-#[unsafe(no_mangle)]
-pub extern "C" fn bintrochis_door_begin_alfid(
+pub fn bintrochis_door_begin_alfid(
     call: u8,
     flags: u8,
     value: u16,

@@ -11,8 +11,7 @@ use state_numbers::told;
 use wire::part;
 
 // Begins a call: the numbers, flags and arguments are those of `bintrochis_door_call`. 0 and a state; or 1, and nothing is touched.
-#[unsafe(no_mangle)]
-pub extern "C" fn bintrochis_door_begin(
+pub fn bintrochis_door_begin(
     call: u8,
     flags: u8,
     value: u16,

@@ -16,12 +16,12 @@ use Rattle.rules.specs.Logs.{Header, header_size, form_in, header_of, uses_of, f
 use Rattle.rules.specs.Writing.{put_header, put_entry, put_entries}
 use Rattle.rules.proofs.Laying.{entries-length}
 use Rattle.rules.proofs.Writing.{writing}
-use Rattle.wire.specs.Buffers.{Copied, with}
+use Rattle.wire.specs.Buffers.{Copied}
 use Rattle.logs.proofs.Copying.{both}
 use Rattle.mending.specs.Mend.{corrected}
 use Rattle.mend.specs.Recounted.{recounted}
 use Rattle.mend.proofs.Copies.{then, as_long}
-use Rattle.captured.specs.Capture.{is_call, from, log_of, log, capture}
+use Rattle.captured.specs.Capture.{is_call, from, log_of, capture}
 use Rattle.captured.specs.Answered.{Places, Captures}
 use Rattle.captured.specs.declared.Captured.TheVariants.{Log, TooLong, NoCall}
 use Rattle.captured.proofs.Written.{put-long, length-arguments, length-log}

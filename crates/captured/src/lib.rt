@@ -1,5 +1,6 @@
 // A whole log of a capture: header and arguments of a call, the events and the replies of a text. What it is, is `capture` of the definitions.
 #![tactic(auto)]
+
 ghost use Rattle.std.specs.Prelude.{◌+◌, ◌*◌, ◌≤◌, true, ◌++◌, map, ◌≡◌, length};
 ghost use Rattle.rules.specs.Events.{plain, event_size, entries};
 ghost use Rattle.rules.specs.Logs.{form_in, header_of, argument_bytes};

@@ -9,16 +9,14 @@ use faults::Found;
 use responder::Response;
 
 // The version of the door, of which include/bintrochis.h has the same number: 200 is 0.2.0.
-#[unsafe(no_mangle)]
-pub extern "C" fn bintrochis_version() -> u32
+pub fn bintrochis_version() -> u32
     ensures { result ≡ 200 }
 {
     200
 }
 
 // Block k of `data` under the block length that call 11 returned: 0, and its counter, where it begins and how long it is; or refusal 11 or 12, and nothing is touched.
-#[unsafe(no_mangle)]
-pub extern "C" fn bintrochis_door_block(
+pub fn bintrochis_door_block(
     data: &[u8],
     block_length: u64,
     k: u64,
@@ -38,16 +36,14 @@ pub extern "C" fn bintrochis_door_block(
 }
 
 // How many of the records that call 15 lists share a bit with the mask.
-#[unsafe(no_mangle)]
-pub extern "C" fn bintrochis_door_faults(mask: u8, records: &[u8]) -> usize
+pub fn bintrochis_door_faults(mask: u8, records: &[u8]) -> usize
     ensures { result ≡ length (select mask records.now) }
 {
     faults::count(mask, records)
 }
 
 // Where the k-th of them (from 0) begins, or the largest number.
-#[unsafe(no_mangle)]
-pub extern "C" fn bintrochis_door_fault(mask: u8, records: &[u8], k: usize) -> usize
+pub fn bintrochis_door_fault(mask: u8, records: &[u8], k: usize) -> usize
     ensures { result ≡ place_in (found_of (select mask records.now) k) }
 {
     match faults::selected(mask, records, k) {
@@ -58,8 +54,7 @@ pub extern "C" fn bintrochis_door_fault(mask: u8, records: &[u8], k: usize) -> u
 
 // The reply of a controller on the bench to a request: 0, and how long the reply is that stands at the front of `reply`, which is 0 for silence; or
 // refusal 13, and nothing is touched. A write changes the store.
-#[unsafe(no_mangle)]
-pub extern "C" fn bintrochis_door_respond(
+pub fn bintrochis_door_respond(
     store: &mut [u8],
     request: &[u8],
     reply: &mut [u8],

@@ -1,5 +1,6 @@
 // The door for C and Rust: one function for all calls on numbers and byte slices, and the number of a negative code's name. Its other functions stand in crates of their
-// own, `alfid_door`, `line_door`, `begin_door`, `begin_alfid_door`, `step_door` and `tick_door`; include/bintrochis.h says all of them to C.
+// own, `alfid_door`, `line_door`, `begin_door`, `begin_alfid_door`, `step_door` and `tick_door`; include/bintrochis.h says all of them to C,
+// and the crates `host_c`, `alfid_door_c` and so on export them.
 #![tactic(auto)]
 ghost use Rattle.std.specs.Prelude.{◌≡◌};
 ghost use Rattle.rules.specs.Codes.{name_number};
@@ -12,12 +13,11 @@ use log_call::{Fields, ask_of};
 use numbers::numbers;
 use wire::part;
 
-mod beside;
+pub mod beside;
 
 // The numbers and flags are those of the log's header, beside them the limit of notices; `addressed` says that an event has twelve bytes, its source address last, and
 // `listens` which address is listened to. `arguments` are address, size and data.
-#[unsafe(no_mangle)]
-pub extern "C" fn bintrochis_door_call(
+pub fn bintrochis_door_call(
     call: u8,
     flags: u8,
     value: u16,
@@ -72,8 +72,7 @@ pub extern "C" fn bintrochis_door_call(
 }
 
 // The number of a negative code's name, from 1, or 0.
-#[unsafe(no_mangle)]
-pub extern "C" fn bintrochis_name_number(code: u8) -> u8
+pub fn bintrochis_name_number(code: u8) -> u8
     ensures { result ≡ name_number code }
 {
     codes::name_number(code)

@@ -1,13 +1,13 @@
 -- Byte by byte, what is kept is what request Eight asks for.
-use Prim.Native.Nat.{ℕ, ◌+◌, ◌-◌, ◌/◌}
-use mathlib.Core.Bool.{Bool, true, false, cond, not, ◌&&◌, ◌||◌}
+use Prim.Native.Nat.{ℕ, ◌-◌, ◌/◌}
+use mathlib.Core.Bool.{Bool, true, false, cond, not, ◌||◌}
 use mathlib.Core.List.{List, [], ◌∷◌, ◌++◌}
 use mathlib.Core.Option.{Option, none, some}
 use mathlib.Core.Path.{◌≡◌, refl, sym, ◌∙◌, ap, ap₂}
-use lib.Dec.{leb, ltb, eqb}
+use lib.Dec.{ltb, eqb}
 use lib.ListN.{length}
-use Rattle.isotp.specs.Joining.{State, Fed}
-use Rattle.candump.specs.Lines.{Line, blank, unreadable, other, frame, read, bare, opened}
+use Rattle.isotp.specs.Joining.{Fed}
+use Rattle.candump.specs.Lines.{Line, blank, unreadable, other, frame, read, bare}
 use Rattle.candump.specs.Text.{past}
 use Rattle.candump.specs.Reading as reading
 use Rattle.candump.specs.declared.Reader.{Reader}
@@ -16,7 +16,7 @@ use Rattle.importing.specs.Texts.{lines_from}
 use Rattle.importing.specs.Import as import
 use Rattle.importing.specs.Import.{Item, request, reply, dropped, Known, Import, started, drops, gives, heard, next, within, walk, imported}
 use Rattle.importing.specs.Kept.{Tally, tally, fits_in, replied, overflowed, note_drop, note_reply, note, log, Kept, kept, Going, going, refused_at, step, Stream, stream}
-use Rattle.importing.specs.Kept.{byte, bytes, judged, ended, start, lines, refused, Written}
+use Rattle.importing.specs.Kept.{byte, bytes, judged, ended, lines, refused, Written}
 use Rattle.importing.specs.Promises.{tell, tells, nothing, written, Imports}
 use Rattle.importing.proofs.Logged.{logs, logs-behind, given-logged, logs-all}
 use Rattle.importing.proofs.Overflows.{overflows}

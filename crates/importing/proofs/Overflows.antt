@@ -1,14 +1,14 @@
 -- When refusal 17 is due.
-use Prim.Native.Nat.{ℕ, ◌+◌, ◌≤◌, ◌<◌}
+use Prim.Native.Nat.{ℕ, ◌+◌, ◌≤◌}
 use native.Mathlib.Nat.{add-zero, zero-add}
 use native.Mathlib.Omega.{arith}
-use mathlib.Core.Bool.{Bool, true, false, cond, not, ◌&&◌, ◌||◌}
+use mathlib.Core.Bool.{Bool, true, false, cond, not, ◌&&◌}
 use mathlib.Core.List.{List, [], ◌∷◌}
-use mathlib.Core.Path.{◌≡◌, refl, sym, ◌∙◌, ap}
+use mathlib.Core.Path.{◌≡◌, refl, ◌∙◌}
 use lib.Dec.{leb, ltb}
 use lib.ListN.{length}
 use borrow.Author.Tests.{le-leb, lt-leb, ltb-true, ltb-false, leb-true, leb-false}
-use Rattle.importing.specs.Import.{Item, request, reply, dropped, count, size, early, within}
+use Rattle.importing.specs.Import.{Item, request, reply, dropped, count, size, early}
 use Rattle.importing.specs.Kept.{Tally, fits_in, replied, overflowed}
 use Rattle.importing.specs.Promises.{tell, tells, nothing, Overflows}
 

@@ -1,7 +1,7 @@
 -- The events that come out always pass refusal 10.
-use Prim.Native.Nat.{ℕ, ◌+◌, ◌-◌, ◌*◌, ◌/◌, ◌%◌, ◌≤◌, ◌<◌, min}
+use Prim.Native.Nat.{ℕ, ◌+◌, ◌-◌, ◌*◌, ◌/◌, ◌%◌, ◌≤◌, min}
 use native.Mathlib.Omega.{arith}
-use native.Mathlib.Nat.{suc-mul, zero-add}
+use native.Mathlib.Nat.{zero-add}
 use mathlib.Core.Bool.{Bool, true, false, cond, ◌&&◌, ◌||◌}
 use mathlib.Core.List.{List, [], ◌∷◌, ◌++◌}
 use mathlib.Core.Option.{Option, none, some}
@@ -26,7 +26,7 @@ use Rattle.candump.specs.Lines.{content, is_identifier, identifier, identified, 
 use Rattle.importing.specs.Texts.{lines_from}
 use Rattle.importing.specs.Import.{Item, request, reply, dropped, Known, Import, going, refused_at, begins, next, started}
 use Rattle.importing.specs.Import.{drops, gives, heard, framed, passed, in_order, step, walk, count, size, early, within}
-use Rattle.importing.specs.Import.{Imported, refused_line, refused, told, judged, imported}
+use Rattle.importing.specs.Import.{Imported, refused, told, judged, imported}
 use Rattle.importing.specs.Promises.{rises, entries_from, replies_of, Passes}
 use Rattle.importing.proofs.Rises.{never-fall, limited, told_in}
 

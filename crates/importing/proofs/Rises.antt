@@ -1,5 +1,5 @@
 -- The times of the events never fall, and what is told is within the limits.
-use Prim.Native.Nat.{ℕ, ◌+◌, ◌-◌, ◌/◌, ◌≤◌, ◌<◌}
+use Prim.Native.Nat.{ℕ, ◌-◌, ◌/◌, ◌≤◌}
 use native.Mathlib.Omega.{arith}
 use mathlib.Core.Bool.{Bool, true, false, cond, ◌&&◌, ◌||◌}
 use mathlib.Core.List.{List, [], ◌∷◌, ◌++◌}
@@ -10,7 +10,7 @@ use borrow.Author.Tests.{le-leb, ltb-false}
 use Rattle.isotp.specs.Joining.{Fed}
 use Rattle.candump.specs.Lines.{Line, blank, unreadable, other, frame, read}
 use Rattle.importing.specs.Texts.{lines_from}
-use Rattle.importing.specs.Import.{Item, request, reply, dropped, Known, Import, going, refused_at, begins, next, started, drops, gives, heard, framed, passed, in_order, known, step, walk, within, Imported}
+use Rattle.importing.specs.Import.{Item, request, reply, dropped, Known, Import, going, refused_at, begins, next, started, drops, gives, heard, framed, passed, in_order, step, walk, within, Imported}
 use Rattle.importing.specs.Import.{refused_line, refused, told, judged, imported}
 use Rattle.importing.specs.Promises.{rises, Rises, Limited}
 

@@ -2,18 +2,17 @@
 use Prim.Native.Nat.{ℕ}
 use native.Mathlib.Omega.{arith}
 use mathlib.Core.Bool.{Bool, true, false, cond, ◌||◌}
-use mathlib.Core.List.{List, [], ◌∷◌, ◌++◌, append-nil}
+use mathlib.Core.List.{List, [], ◌∷◌, ◌++◌}
 use mathlib.Core.Path.{◌≡◌, refl, sym, ◌∙◌, ap}
 use lib.Dec.{eqb}
 use Rattle.candump.specs.Reading as reading
-use Rattle.candump.specs.declared.Phase.{Phase}
 use Rattle.candump.specs.declared.Phase.TheVariants.{Bad}
 use Rattle.candump.specs.declared.Reader.{Reader}
 use Rattle.candump.proofs.Reading.{is-bad, bad-stays}
 use Rattle.importing.specs.Import as import
 use Rattle.importing.specs.Import.{Imported, next, imported}
-use Rattle.importing.specs.Kept.{Kept, Going, going, refused_at, refused_in, step, Stream, stream, byte, bytes, Written, refused_line, refused}
-use Rattle.importing.specs.Kept.{lines, settled, ended, start}
+use Rattle.importing.specs.Kept.{Kept, Going, going, refused_at, refused_in, step, Stream, stream, byte, bytes, Written, refused_line}
+use Rattle.importing.specs.Kept.{settled, ended, start}
 use Rattle.importing.specs.Promises.{written, Settles}
 use Rattle.importing.proofs.Imports.{imports}
 

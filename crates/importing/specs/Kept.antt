@@ -1,11 +1,11 @@
 -- What is kept of a text while its lines come, in bounded memory: counts, the lines to be written so far, and the events as a log has them.
-use Rattle.std.specs.Prelude.{ℕ, ◌+◌, ◌-◌, ◌/◌, Bool, true, false, cond, not, ◌&&◌, ◌||◌, List, [], ◌∷◌, ◌++◌, ◌≡◌, leb, ltb, eqb, length}
+use Rattle.std.specs.Prelude.{ℕ, ◌+◌, ◌-◌, ◌/◌, Bool, true, false, cond, ◌&&◌, ◌||◌, List, [], ◌∷◌, ◌++◌, leb, ltb, eqb, length}
 use Rattle.std.proofs.Math.Option.{Option, none, some}
 use Rattle.rules.specs.Events.{plain, Entry}
 use Rattle.rules.specs.Lines.{ascii}
 use Rattle.rules.specs.Writing.{put_entry}
 use Rattle.text.specs.Written.{item}
-use Rattle.isotp.specs.Joining.{State, idle, Fed}
+use Rattle.isotp.specs.Joining.{State, idle}
 use Rattle.candump.specs.Lines.{Line, blank, unreadable, other, frame}
 use Rattle.candump.specs.Reading as reading
 use Rattle.candump.specs.declared.Reader.{Reader}

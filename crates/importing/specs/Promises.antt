@@ -1,6 +1,6 @@
 -- What is promised of what is kept: byte by byte, in bounded memory, it is what request Eight asks for.
 use Rattle.std.specs.Prelude.{ℕ, ◌+◌, ◌-◌, ◌≤◌, Bool, true, false, cond, not, ◌&&◌, leb, ltb, List, [], ◌∷◌, ◌++◌, ◌≡◌, length}
-use Rattle.std.proofs.Math.Option.{Option, none}
+use Rattle.std.proofs.Math.Option.{none}
 use Rattle.rules.specs.Bytes.{every, is_byte}
 use Rattle.rules.specs.Events.{plain, Entry, within_limits}
 use Rattle.rules.specs.Lines.{ascii}

@@ -2,7 +2,7 @@
 use Rattle.std.specs.Prelude.{ℕ, List, [], ◌∷◌, ◌++◌, map, ◌≡◌}
 use Prim.Native.String.{String}
 use Rattle.rules.specs.Lines.{ascii}
-use Rattle.importing.specs.Import.{Item, request, reply, dropped, Imported, refused_line, refused, told, imported}
+use Rattle.importing.specs.Import.{request, reply, dropped, Imported, refused_line, refused, told, imported}
 
 pub record Row : Type 0 where
   pub text : List ℕ

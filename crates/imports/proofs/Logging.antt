@@ -1,7 +1,7 @@
 -- The events for a log, behind each reply.
 use Prim.Native.Nat.{ℕ, ◌+◌, ◌*◌, ◌-◌, ◌/◌, ◌≤◌, ◌<◌}
 use native.Mathlib.Omega.{arith}
-use mathlib.Core.Bool.{Bool, true, false, cond, not, ◌&&◌, false≢true}
+use mathlib.Core.Bool.{Bool, true, false, cond, ◌&&◌, false≢true}
 use mathlib.Core.List.{List, [], ◌++◌, append_assoc}
 use mathlib.Core.Option.{Option, none, some}
 use mathlib.Core.Path.{◌≡◌, refl, sym, ◌∙◌, ap, ap₂}
@@ -85,24 +85,24 @@ module _ (l m o a r : List ℕ) (e b : ℕ) {done done' : Bool} (whole : length 
 
 -- A reply that fits, and one that does not.
 module _ (t : Tally) (ms : ℕ) (m l : List ℕ) {f : Bool} (ef : f ≡ fits_in t.events t.bytes ms (length m)) where
-  pub left_out : not f ≡ true → log_in (note_reply 0 ms m (tally_of t [])) l ≡ log_reply ms m (tally_of t []) (log_of t l)
+  pub left_out : f ≡ false → log_in (note_reply 0 ms m (tally_of t [])) l ≡ log_reply ms m (tally_of t []) (log_of t l)
   left_out e = rw (← ef) (go f e)
     where
-      go : (b : Bool) → not b ≡ true →
+      go : (b : Bool) → b ≡ false →
           log_in (cond b (replied 0 ms m (tally_of t [])) (overflowed (tally_of t []))) l ≡ cond b (kept.logged ms m (tally_of t []) (log_of t l)) (log_of t l)
-      go true e = let z : ◌≡◌ {A = ℕ} 0 1 = ap (λ (b : Bool). cond b 1 0) e in absurd (omega arith)
+      go true e = let z : ◌≡◌ {A = ℕ} 0 1 = ap (λ (b : Bool). cond b 0 1) e in absurd (omega arith)
       go false e = refl
 
-  pub put_in : (after : List ℕ) → not f ≡ false →
+  pub put_in : (after : List ℕ) → f ≡ true →
       held_log ((t.events + 1) * 10) (t.bytes + length m) after ≡
       kept.log (take (t.events * 10) l ++ put_entry plain (entry ms t.bytes (length m))) (take t.bytes (drop 5120 l) ++ m) →
       log_in (note_reply 0 ms m (tally_of t [])) after ≡ log_reply ms m (tally_of t []) (log_of t l)
   put_in after e h = rw (← ef) (go f e)
     where
-      go : (b : Bool) → not b ≡ false →
+      go : (b : Bool) → b ≡ true →
           log_in (cond b (replied 0 ms m (tally_of t [])) (overflowed (tally_of t []))) after ≡ cond b (kept.logged ms m (tally_of t []) (log_of t l)) (log_of t l)
       go true e = h
-      go false e = let z : ◌≡◌ {A = ℕ} 0 1 = ap (λ (b : Bool). cond b 0 1) e in absurd (omega arith)
+      go false e = let z : ◌≡◌ {A = ℕ} 0 1 = ap (λ (b : Bool). cond b 1 0) e in absurd (omega arith)
 
 -- The counts do not depend on the text, nor on what else the line tells.
 module _ (t : Tally) (out l : List ℕ) (room n time : ℕ) where
@@ -141,13 +141,9 @@ module _ (t : Tally) (out l : List ℕ) (room n time : ℕ) where
   same-given (some s) (some m) g = refl
 
 -- A time that fits is one of 32 bits.
-pub soon : (events bytes ms size : ℕ) {f : Bool} → f ≡ fits_in events bytes ms size → not f ≡ false → ms ≤ 4294967295
-soon events bytes ms size {f} ef e = go (ltb events 512) (leb ms 4294967295) (leb (bytes + size) 65535) refl (sym ef ∙ true_of f e)
+pub soon : (events bytes ms size : ℕ) {f : Bool} → f ≡ fits_in events bytes ms size → f ≡ true → ms ≤ 4294967295
+soon events bytes ms size {f} ef e = go (ltb events 512) (leb ms 4294967295) (leb (bytes + size) 65535) refl (sym ef ∙ e)
   where
-    true_of : (b : Bool) → not b ≡ false → b ≡ true
-    true_of true z = refl
-    true_of false z = sym z
-
     go : (a b c : Bool) → leb ms 4294967295 ≡ b → (a && b && c) ≡ true → ms ≤ 4294967295
     go true true c eb z = leb-true ms 4294967295 eb
     go true false c eb z = absurd (false≢true z)

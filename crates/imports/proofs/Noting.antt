@@ -1,11 +1,11 @@
 -- What is kept behind each thing that is told.
 use Prim.Native.Nat.{ℕ, ◌+◌, ◌-◌, ◌≤◌, ◌<◌, min}
 use native.Mathlib.Omega.{arith}
-use mathlib.Core.Bool.{Bool, true, false, cond, not, ◌&&◌, false≢true}
-use mathlib.Core.List.{List, [], ◌∷◌, ◌++◌}
-use mathlib.Core.Option.{Option, none, some}
-use mathlib.Core.Path.{◌≡◌, refl, sym, ◌∙◌, ap, ap₂, subst}
-use lib.Dec.{leb, ltb, eqb}
+use mathlib.Core.Bool.{Bool, true, false, cond, ◌&&◌, false≢true}
+use mathlib.Core.List.{List, [], ◌++◌}
+use mathlib.Core.Option.{Option}
+use mathlib.Core.Path.{◌≡◌, refl, sym, ◌∙◌, ap, subst}
+use lib.Dec.{leb, ltb}
 use lib.ListN.{length, take, drop, length-append, length-take, length-drop}
 use lib.Seq.{length-take-le, take_at, drop_at, take_all}
 use borrow.Author.Tests.{le-leb, lt-leb, lt-ltb, le-ltb, ltb-true, leb-true, leb-false}
@@ -18,7 +18,7 @@ use Rattle.importing.specs.Kept as kept
 use Rattle.importing.specs.Kept.{append, note_drop, note_request, note_reply, note_given, fits_in}
 use Rattle.imports.specs.Held.{start_of, tally_of, Tallied}
 use Rattle.imports.specs.declared.Start.{Start}
-use Rattle.imports.specs.declared.Start.TheVariants.{None, At}
+use Rattle.imports.specs.declared.Start.TheVariants.{At}
 use Rattle.imports.specs.declared.Tally.{Tally}
 
 abbrev pub holds : Start → ℕ → ℕ → ℕ → Bool → ℕ → Tally
@@ -87,20 +87,20 @@ inside-after {after = after} {r = r} p =
     omega (arith, p.size, ap (λ (x : kept.Tally). length x.text) p.says, length-take r.size after)
 
 module _ (t : Tally) (line : ℕ) (out : List ℕ) (at : ℕ) (ea : at ≡ min t.size (length out)) where
-  pub no_drop : (d : Bool) → not d ≡ true →
+  pub no_drop : (d : Bool) → d ≡ false →
       Tallied (cond d (note_drop (length out) line (tally_of t out)) (tally_of t out)) out (holds t.start t.events t.bytes t.drops t.over at) out
-  no_drop true e = let z : ◌≡◌ {A = ℕ} 0 1 = ap (λ (b : Bool). cond b 1 0) e in absurd (omega arith)
+  no_drop true e = let z : ◌≡◌ {A = ℕ} 0 1 = ap (λ (b : Bool). cond b 0 1) e in absurd (omega arith)
   no_drop false e = untold t out at t.drops t.over ea
 
-  module _ (d : Bool) {n : ℕ} (e : not d ≡ false) (en : n ≡ next t.drops) where
+  module _ (d : Bool) {n : ℕ} (e : d ≡ true) (en : n ≡ next t.drops) where
     pub too-many-drops : 4096 ≤ t.drops →
         Tallied (cond d (note_drop (length out) line (tally_of t out)) (tally_of t out)) out (holds t.start t.events t.bytes n t.over at) out
     too-many-drops h = go d e
       where
-        go : (b : Bool) → not b ≡ false →
+        go : (b : Bool) → b ≡ true →
             Tallied (cond b (note_drop (length out) line (tally_of t out)) (tally_of t out)) out (holds t.start t.events t.bytes n t.over at) out
         go true f = rw (le-ltb t.drops 4096 h, en) (untold t out at (next t.drops) t.over ea)
-        go false f = let z : ◌≡◌ {A = ℕ} 0 1 = ap (λ (b : Bool). cond b 0 1) f in absurd (omega arith)
+        go false f = let z : ◌≡◌ {A = ℕ} 0 1 = ap (λ (b : Bool). cond b 1 0) f in absurd (omega arith)
 
     pub drop-told : {r : ℕ} {after : List ℕ} → t.drops < 4096 → Appended (item (ascii "dropped") line []) out at r after →
         Tallied (cond d (note_drop (length out) line (tally_of t out)) (tally_of t out)) out (holds t.start t.events t.bytes n t.over r) after
@@ -109,12 +109,12 @@ module _ (t : Tally) (line : ℕ) (out : List ℕ) (at : ℕ) (ea : at ≡ min t
         same : take at out ≡ take t.size out
         same = ap (λ (k : ℕ). take k out) ea ∙ take-inside t.size out
 
-        go : (b : Bool) → not b ≡ false →
+        go : (b : Bool) → b ≡ true →
             Tallied (cond b (note_drop (length out) line (tally_of t out)) (tally_of t out)) out (holds t.start t.events t.bytes n t.over r) after
         go true f =
             rw (lt-ltb t.drops 4096 h, ← en, ← same)
             (told_line out after (item (ascii "dropped") line []) at r (omega arith) p t.start t.events t.bytes n t.over)
-        go false f = let z : ◌≡◌ {A = ℕ} 0 1 = ap (λ (b : Bool). cond b 0 1) f in absurd (omega arith)
+        go false f = let z : ◌≡◌ {A = ℕ} 0 1 = ap (λ (b : Bool). cond b 1 0) f in absurd (omega arith)
 
 module _ (t : Tally) (out : List ℕ) (h : t.size ≤ length out) where
   pub request-told : (line time : ℕ) (m : List ℕ) {r : ℕ} {after : List ℕ} → Appended (item (ascii "request") line m) out t.size r after →
@@ -123,29 +123,29 @@ module _ (t : Tally) (out : List ℕ) (h : t.size ≤ length out) where
       told_line out after (item (ascii "request") line m) t.size r h p (At time) t.events t.bytes t.drops t.over
 
   module _ (ms : ℕ) (m : List ℕ) {f : Bool} (ef : f ≡ fits_in t.events t.bytes ms (length m)) where
-    pub too_much : not f ≡ true → Tallied (note_reply (length out) ms m (tally_of t out)) out (holds t.start t.events t.bytes t.drops true t.size) out
+    pub too_much : f ≡ false → Tallied (note_reply (length out) ms m (tally_of t out)) out (holds t.start t.events t.bytes t.drops true t.size) out
     too_much e = rw (← ef) (go f e)
       where
-        go : (b : Bool) → not b ≡ true →
+        go : (b : Bool) → b ≡ false →
             Tallied (cond b
             (kept.tally (start_of t.start) (t.events + 1) (t.bytes + length m) t.drops t.over (append (length out) (take t.size out) (item (ascii "reply") ms m)))
             (kept.tally (start_of t.start) t.events t.bytes t.drops true (take t.size out))) out
             (holds t.start t.events t.bytes t.drops true t.size) out
-        go true f = let z : ◌≡◌ {A = ℕ} 0 1 = ap (λ (b : Bool). cond b 1 0) f in absurd (omega arith)
+        go true f = let z : ◌≡◌ {A = ℕ} 0 1 = ap (λ (b : Bool). cond b 0 1) f in absurd (omega arith)
         go false f = record { says = refl; size = sym (length-take-le t.size out h); rest = refl; room = refl }
 
-    pub reply-told : {r e b : ℕ} {after : List ℕ} → not f ≡ false → e ≡ t.events + 1 → b ≡ t.bytes + length m →
+    pub reply-told : {r e b : ℕ} {after : List ℕ} → f ≡ true → e ≡ t.events + 1 → b ≡ t.bytes + length m →
         Appended (item (ascii "reply") ms m) out t.size r after →
         Tallied (note_reply (length out) ms m (tally_of t out)) out (holds t.start e b t.drops t.over r) after
     reply-told {r = r} {e = e} {b = b} {after = after} g ee eb p = rw (← ef) (go f g)
       where
-        go : (x : Bool) → not x ≡ false →
+        go : (x : Bool) → x ≡ true →
             Tallied (cond x
             (kept.tally (start_of t.start) (t.events + 1) (t.bytes + length m) t.drops t.over (append (length out) (take t.size out) (item (ascii "reply") ms m)))
             (kept.tally (start_of t.start) t.events t.bytes t.drops true (take t.size out))) out
             (holds t.start e b t.drops t.over r) after
         go true z = rw (← ee, ← eb) (told_line out after (item (ascii "reply") ms m) t.size r h p t.start e b t.drops t.over)
-        go false z = let y : ◌≡◌ {A = ℕ} 0 1 = ap (λ (b : Bool). cond b 0 1) z in absurd (omega arith)
+        go false z = let y : ◌≡◌ {A = ℕ} 0 1 = ap (λ (b : Bool). cond b 1 0) z in absurd (omega arith)
 
 -- What is given, by what the code's values are.
 module _ (room n time : ℕ) (t : Tally) (a b : Gives) (q p out : List ℕ) {r : Tally} {after : List ℕ} where
@@ -163,13 +163,9 @@ room-left bytes size h = go (leb (bytes + size) 65535) refl
     go false e = lt-leb size (65535 - bytes) (omega (arith, leb-false (bytes + size) 65535 e))
 
 -- A reply that fits leaves the counts small.
-pub fitted : (events bytes ms size : ℕ) {f : Bool} → f ≡ fits_in events bytes ms size → not f ≡ false → (events < 512) × (bytes + size ≤ 65535)
-fitted events bytes ms size {f} ef e = go (ltb events 512) (leb ms 4294967295) (leb (bytes + size) 65535) refl refl (sym ef ∙ true_of f e)
+pub fitted : (events bytes ms size : ℕ) {f : Bool} → f ≡ fits_in events bytes ms size → f ≡ true → (events < 512) × (bytes + size ≤ 65535)
+fitted events bytes ms size {f} ef e = go (ltb events 512) (leb ms 4294967295) (leb (bytes + size) 65535) refl refl (sym ef ∙ e)
   where
-    true_of : (b : Bool) → not b ≡ false → b ≡ true
-    true_of true z = refl
-    true_of false z = sym z
-
     go : (a b c : Bool) → ltb events 512 ≡ a → leb (bytes + size) 65535 ≡ c → (a && b && c) ≡ true → (events < 512) × (bytes + size ≤ 65535)
     go true true true ea ec z = (ltb-true events 512 ea, leb-true (bytes + size) 65535 ec)
     go true true false ea ec z = absurd (false≢true z)

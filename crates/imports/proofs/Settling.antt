@@ -1,5 +1,4 @@
 -- What is settled, by the code's values.
-use Prim.Native.Nat.{ℕ}
 use mathlib.Core.Bool.{Bool, true, false, cond, not, ◌||◌}
 use mathlib.Core.Path.{◌≡◌, refl}
 use lib.Dec.{eqb}

@@ -1,19 +1,17 @@
 -- What a frame and a line do to what is kept.
-use Prim.Native.Nat.{ℕ, ◌+◌, ◌≤◌, ◌<◌}
-use native.Mathlib.Omega.{arith}
+use Prim.Native.Nat.{ℕ, ◌+◌, ◌<◌}
 use mathlib.Core.Bool.{Bool, true, false, cond, ◌||◌}
 use mathlib.Core.List.{List, [], ◌∷◌, ◌++◌}
-use mathlib.Core.Option.{Option, none, some}
+use mathlib.Core.Option.{Option, none}
 use mathlib.Core.Path.{◌≡◌, refl, sym, ◌∙◌, ap, ap₂}
-use lib.Dec.{leb, ltb, eqb}
+use lib.Dec.{eqb}
 use native.Mathlib.Numerals.{add-one}
-use lib.ListN.{length, get_or, take, drop}
+use lib.ListN.{length, get_or, take}
 use lib.Seq.{take-suc}
 use borrow.Author.Tests.{eq-eqb}
-use Rattle.isotp.specs.Joining.{State, Fed, feed}
+use Rattle.isotp.specs.Joining.{feed}
 use Rattle.isotp.specs.Held.{state_of, given_of, Does}
 use Rattle.isotp.specs.declared.Heard.{Heard}
-use Rattle.isotp.specs.declared.Joiner.{Joiner}
 use Rattle.importing.specs.Import.{next, heard}
 use Rattle.importing.specs.Kept as kept
 use Rattle.importing.specs.Kept.{note_drop, note_given, note, log_given, framed, Going, going, known, step, byte, bytes}

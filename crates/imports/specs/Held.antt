@@ -1,5 +1,5 @@
 -- How the code holds what is kept: numbers in structs, bytes in lent buffers.
-use Rattle.std.specs.Prelude.{ℕ, ◌*◌, ◌≤◌, Bool, true, false, cond, not, ◌&&◌, ◌||◌, List, ◌≡◌, leb, ltb, eqb, length, take, drop}
+use Rattle.std.specs.Prelude.{ℕ, ◌*◌, ◌≤◌, Bool, cond, not, ◌||◌, List, ◌≡◌, eqb, length, take, drop}
 use Rattle.std.proofs.Math.Option.{Option, none, some}
 use Rattle.isotp.specs.Held.{state_of}
 use Rattle.candump.specs.Reading.{hopeless}

@@ -1,5 +1,6 @@
 // Request Eight, "Import from candump": the lines of a text, byte by byte, in bounded memory. What is kept of them is `Kept` of `importing`.
 #![tactic(auto)]
+
 ghost use Rattle.std.specs.Prelude.{◌*◌, ◌-◌, ◌/◌, ◌≤◌, min, cond, ◌||◌, [], ◌≡◌, length, drop};
 ghost use Rattle.std.proofs.Math.Option.{none};
 ghost use Rattle.isotp.specs.Held.{given_of};

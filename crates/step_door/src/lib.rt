@@ -9,8 +9,7 @@ use state_numbers::{WAITING, ask_in, asking, byte, engine_in, told};
 use wire::part;
 
 // One event, with the request that was sent and the reply bytes lent for it. 0 where it was taken; 10, 20 or 21 where it is refused, and 1 where the state is none: then the state stays.
-#[unsafe(no_mangle)]
-pub extern "C" fn bintrochis_door_event(
+pub fn bintrochis_door_event(
     state: &mut [u64; 28],
     request: &[u8],
     time: u32,

@@ -1,13 +1,13 @@
 -- What the code tells of a call's checks by their numbers, and by the one that failed, is what `telling` tells by the tests themselves.
-use Prim.Native.Nat.{ℕ, ◌+◌, ◌-◌, ◌*◌, ◌/◌, ◌%◌, ◌^◌, ◌≤◌, ◌<◌}
+use Prim.Native.Nat.{ℕ, ◌+◌, ◌-◌, ◌/◌, ◌%◌, ◌<◌}
 use native.Mathlib.Omega.{arith}
 use mathlib.Core.Bool.{Bool, true, false, cond, not, ◌&&◌, true≢false, and-eq-true_iff}
 use mathlib.Core.List.{List, [], ◌∷◌, ◌++◌, append-nil}
 use mathlib.Core.Option.{Option, none, some}
-use mathlib.Core.Path.{◌≡◌, refl, sym, ◌∙◌, ap}
-use lib.Dec.{leb, ltb, eqb}
+use mathlib.Core.Path.{◌≡◌, refl, sym, ap}
+use lib.Dec.{leb, eqb}
 use lib.ListN.{length, get_or}
-use borrow.Author.Tests.{le-leb, eq-eqb, ne_eqb, eqb-true, leb-true, ltb-true}
+use borrow.Author.Tests.{le-leb, eq-eqb, ne_eqb, eqb-true}
 use Rattle.rules.specs.After as after
 use Rattle.rules.specs.After.{length_bytes, service_checks, handed, checked}
 use Rattle.rules.specs.Answers as answers
@@ -17,10 +17,9 @@ use Rattle.rules.specs.InOrder.{Check, unless, judge}
 use Rattle.requests.specs.Meaning.{call_from}
 use Rattle.requests.specs.declared.Call.{Call}
 use Rattle.requests.specs.declared.Call.TheVariants as call
-use Rattle.requests.specs.declared.Data.{Data}
 use Rattle.requests.specs.declared.Data.TheVariants.{Absent, Present}
-use Rattle.telling.specs.Checks.{wanted_by, length?, wanted, check_line, told, told_of, checks_text}
-use Rattle.story_checks.specs.Coded.{at_least, exactly, odd_of, coded, bounds, wanted_of, failed_in, finding, told_by, codes_of, checks_by}
+use Rattle.telling.specs.Checks.{length?, wanted, check_line, told, told_of, checks_text}
+use Rattle.story_checks.specs.Coded.{at_least, exactly, coded, wanted_of, failed_in, finding, told_by, codes_of, checks_by}
 use Rattle.story_checks.proofs.Coding.{in_parts}
 
 abbrev codes : List (Check Fault) → List ℕ

@@ -2,22 +2,19 @@
 use Prim.Native.Nat.{ℕ, ◌+◌, ◌-◌, ◌*◌, ◌/◌, ◌%◌, ◌≤◌, ◌<◌}
 use native.Mathlib.Omega.{arith}
 use mathlib.Core.Bool.{Bool, true, false, cond}
-use mathlib.Core.List.{List, [], ◌∷◌}
 use mathlib.Core.Option.{Option, none, some}
-use mathlib.Core.Path.{◌≡◌, refl, sym, ◌∙◌}
+use mathlib.Core.Path.{◌≡◌, refl, sym}
 use lib.Dec.{eqb}
-use types.Run.{OneOf, miss}
-use denote.Enum.Declared.{tag_of}
 use borrow.Author.Tests.{eq-eqb, ne_eqb, eqb-true, eqb-false}
 use Rattle.rules.specs.After.{reset_length}
 use Rattle.rules.specs.Answers.{deviation8}
 use Rattle.exchange.specs.Meaning.{deviation_number, deviation_of}
+use Rattle.exchange.specs.declared.error.Maximum.{Maximum}
 use Rattle.exchange.specs.declared.error.ProtocolDeviation.{ProtocolDeviation}
 use Rattle.exchange.specs.declared.error.ProtocolDeviation.TheVariants as protocol
-use Rattle.exchange.specs.contracts.error.ProtocolDeviation.{the_type}
 use Rattle.requests.specs.declared.Data.{Data}
 use Rattle.requests.specs.declared.Data.TheVariants.{Absent, Present}
-use Rattle.story_checks.specs.Coded.{at_least, exactly, odd_of, coded, transferred}
+use Rattle.story_checks.specs.Coded.{odd_of, coded, transferred}
 
 -- The number of a length is 32 or more, odd where there is a most.
 pub in_parts : (least : ℕ) (m : Option ℕ) → coded (deviation8 least m) ≡ least * 2 + 32 + odd_of m
@@ -53,11 +50,8 @@ pub transfer-short : (d : Data) → transferred d ≤ 3
 transfer-short Absent = omega arith
 transfer-short Present = omega arith
 
-abbrev pub not_length : List ℕ
-not_length = 0 ∷ 1 ∷ 2 ∷ 3 ∷ 4 ∷ 5 ∷ 6 ∷ 8 ∷ 9 ∷ 10 ∷ 11 ∷ 12 ∷ 13 ∷ 14 ∷ []
-
 -- Every other deviation is its own number.
-pub own-number : (d : ProtocolDeviation) → OneOf not_length (tag_of the_type d) → deviation_number d ≡ coded (deviation_of d)
+pub own-number : (d : ProtocolDeviation) → ((least : ℕ) (most : Maximum) → d ≡ protocol.InvalidResponseLength least most → ⊥) → deviation_number d ≡ coded (deviation_of d)
 own-number protocol.InvalidServiceId k = refl
 own-number protocol.InvalidRequestServiceId k = refl
 own-number protocol.InvalidSubFunction k = refl
@@ -65,7 +59,7 @@ own-number protocol.UnexpectedPositiveResponse k = refl
 own-number protocol.InvalidDataIdentifier k = refl
 own-number protocol.InvalidRoutineIdentifier k = refl
 own-number protocol.InvalidBlockSequenceCounter k = refl
-own-number (protocol.InvalidResponseLength least most) k = absurd (miss not_length 7 _ k)
+own-number (protocol.InvalidResponseLength least most) k = absurd (k least most refl)
 own-number protocol.InvalidLengthFormat k = refl
 own-number protocol.InvalidLengthFormatIdentifier k = refl
 own-number protocol.InvalidMaxNumberOfBlockLength k = refl

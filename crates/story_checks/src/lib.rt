@@ -1,6 +1,7 @@
 // The checks behind a positive, each as it was passed or failed. What a reply was judged to be is known already: the answer says which check failed,
 // and those before it in the call's row passed.
 #![tactic(auto)]
+
 ghost use Rattle.std.specs.Prelude.{◌≤◌, [], ◌≡◌, eqb, length, take};
 ghost use Rattle.rules.specs.After.{reset_length};
 ghost use Rattle.rules.specs.Answers as answers;

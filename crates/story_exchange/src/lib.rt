@@ -1,5 +1,6 @@
 // The story of an exchange, over the exchange's own turn: "a line for each event read and each deadline".
 #![tactic(auto)]
+
 ghost use Rattle.std.specs.Prelude.{◌&&◌, [], ◌++◌, ◌≡◌, leb};
 ghost use Rattle.rules.specs.Events.{entries};
 ghost use Rattle.rules.specs.Exchange as rules;

@@ -1,12 +1,9 @@
 -- Laws of a line's words: bytes one by one, what an event is, and what it is judged to be.
-use Prim.Native.Nat.{ℕ, ◌+◌, ◌≤◌, ◌<◌}
+use Prim.Native.Nat.{ℕ, ◌+◌, ◌<◌}
 use native.Mathlib.Numerals.{add-one}
-use native.Mathlib.Omega.{arith}
-use mathlib.Core.Bool.{true, false, cond}
 use mathlib.Core.List.{List, [], ◌∷◌, ◌++◌, append_assoc, append-nil}
 use mathlib.Core.Path.{◌≡◌, refl, sym, ◌∙◌, ap}
-use lib.Dec.{leb}
-use lib.ListN.{length, take, drop, get_or}
+use lib.ListN.{length, take, get_or}
 use lib.Seq.{take-suc}
 use Rattle.rules.specs.Lines.{ascii, decimal, hex, spaced}
 use Rattle.exchange.specs.Meaning.{deviation_number, deviation_of, outcome_of}

@@ -1,5 +1,6 @@
 // The lines of a story, each added from an index on; the answer is where it ends.
 #![tactic(auto)]
+
 ghost use Rattle.std.specs.Prelude.{cond, [], ◌++◌, ◌≡◌};
 ghost use Rattle.rules.specs.Lines.{ascii};
 ghost use Rattle.exchange.specs.Meaning.{entry_of, fault_of, outcome_of};

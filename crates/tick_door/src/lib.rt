@@ -6,8 +6,7 @@ use log_call::Fields;
 use state_numbers::{WAITING, ask_in, asking, engine_in, told};
 
 // The time since sending, in milliseconds. The answers are those of an event, 10 aside.
-#[unsafe(no_mangle)]
-pub extern "C" fn bintrochis_door_tick(state: &mut [u64; 28], time: u64) -> u8
+pub fn bintrochis_door_tick(state: &mut [u64; 28], time: u64) -> u8
     ensures { Ticked state.old time result state.new }
 {
     let s = *state;

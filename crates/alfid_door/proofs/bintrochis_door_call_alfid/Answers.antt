@@ -27,7 +27,7 @@ returns-then-not-fits c =
     let asks = told_of c.fields-h.ensures c.in-Ask.is c.ask_of.ensures in
     asks_none
     (rw (← has.ensures, not-false has.result c.if-not-has_alfid.false-raw)
-    (suited x.limit (length d) c.fields-h.ensures asks.0 c.fits2.ensures ∙ not-true _ c.if-not-fits.true-raw))
+    (suited x.limit (length d) c.fields-h.ensures asks.0 c.fits.ensures ∙ not-true _ c.if-not-fits.true-raw))
 
 pub returns : goal.returns
 returns c =
@@ -39,5 +39,5 @@ returns c =
     asks.1
     (rw c.limited-ask.ensures at c.run_alfid-x.ensures)
     (rw (← has.ensures, not-false has.result c.if-not-has_alfid.false-raw)
-    (suited x.limit (length d) c.fields-h.ensures asks.0 c.fits2.ensures ∙ not-false _ c.if-not-fits.false-raw))
+    (suited x.limit (length d) c.fields-h.ensures asks.0 c.fits.ensures ∙ not-false _ c.if-not-fits.false-raw))
     c.numbers.ensures

@@ -25,7 +25,7 @@ returns-then-not-fits c =
     let x = c.args in
     let asks = told_of c.fields-h.ensures c.in-Ask.is c.ask_of.ensures in
     begins-nothing (rw (← has.ensures, not-false has.result c.if-not-has_alfid.false-raw)
-    (suited x.limit (length x.«data».now) c.fields-h.ensures asks.0 c.fits2.ensures ∙ not-true _ c.if-not-fits.true-raw))
+    (suited x.limit (length x.«data».now) c.fields-h.ensures asks.0 c.fits.ensures ∙ not-true _ c.if-not-fits.true-raw))
 
 pub returns : goal.returns
 returns c =
@@ -36,7 +36,7 @@ returns c =
     let v = alfid x.address x.address_width x.wide in
     let u = alfid x.size x.size_width x.wide in
     begins-one (rw (← has.ensures, not-false has.result c.if-not-has_alfid.false-raw)
-    (suited x.limit (length d) c.fields-h.ensures asks.0 c.fits2.ensures ∙ not-false _ c.if-not-fits.false-raw))
+    (suited x.limit (length d) c.fields-h.ensures asks.0 c.fits.ensures ∙ not-false _ c.if-not-fits.false-raw))
     asks.1
     (rw (asks.1.call v u d) at (rw c.limited-ask.ensures at c.begin_alfid-engine.ensures))
     c.told.ensures

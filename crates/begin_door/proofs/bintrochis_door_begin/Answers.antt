@@ -15,14 +15,14 @@ pub returns-then-not-fits : goal.returns-then-not-fits
 returns-then-not-fits c =
     let x = c.args in
     let asks = told_of c.fields-h.ensures c.in-Ask.is c.ask_of.ensures in
-    begins-nothing (suited x.limit (length x.arguments.now) c.fields-h.ensures asks.0 c.fits2.ensures ∙ not-true _ c.if-not-fits.true-raw)
+    begins-nothing (suited x.limit (length x.arguments.now) c.fields-h.ensures asks.0 c.fits.ensures ∙ not-true _ c.if-not-fits.true-raw)
 
 pub returns : goal.returns
 returns c =
     let x = c.args in
     let l = x.arguments.now in
     let asks = told_of c.fields-h.ensures c.in-Ask.is c.ask_of.ensures in
-    begins-one (suited x.limit (length l) c.fields-h.ensures asks.0 c.fits2.ensures ∙ not-false _ c.if-not-fits.false-raw)
+    begins-one (suited x.limit (length l) c.fields-h.ensures asks.0 c.fits.ensures ∙ not-false _ c.if-not-fits.false-raw)
     asks.1
     (chosen-in-bytes asks.1 x.limit l c.part-address.ensures c.part-size.ensures c.part-data.ensures
     (rw c.limited-ask.ensures at c.begin-engine.ensures))

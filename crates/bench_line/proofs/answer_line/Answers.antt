@@ -9,4 +9,4 @@ returns-then-line-lt-LONGEST c =
 
 pub returns : goal.returns
 returns c =
-    whole c.args.store.now c.args.asked.now c.args.line.now c.if-line-lt-LONGEST.false (c.part.ensures ∙ c.end_of_lem.ensures) c.answer_to.ensures
+    whole c.args.store.now c.args.asked.now c.args.line.now c.if-line-lt-LONGEST.false (c.part.ensures ∙ c.end_of-n.ensures) c.answer_to.ensures

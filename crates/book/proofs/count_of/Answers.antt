@@ -7,10 +7,10 @@ use Rattle.bookkeeping.specs.Book.{of_call}
 use Rattle.bookkeeping.specs.Layout.{start}
 use lib.ListN.{length}
 use mathlib.Core.Path.{◌≡◌, sym, ◌∙◌, ap, ap₂}
-use mathlib.Core.Logic.{⊎_elim}
 use mathlib.Core.List.{List}
 use Prim.Native.Nat.{ℕ, ◌-◌, ◌≤◌}
 use Rattle.book.proofs.count_of.Goals as goal
+use Rattle.book.proofs.count_of.Goals.{then-call_in-call, else-call_in-call}
 
 pub loop-i-init : goal.loop-i-init
 loop-i-init c =
@@ -70,11 +70,16 @@ loop-i-preserved c =
     let more = c.loop-i-test.true in (
       omega arith,
       omega (arith, l.invariant.1, short),
-      ⊎_elim (λ w. omega (arith, w.1, l.invariant.2)) (λ w. omega (arith, w.1, l.invariant.2)) c.if-call_in-call.branch,
-      ⊎_elim
-          (λ w. omega (arith, w.1, l.invariant.3, one-of-call b n l.i l.at more log is call (sym c.call_in.ensures ∙ w.0.taken)))
-          (λ w. omega (arith, w.1, l.invariant.3, none-of-call b n l.i l.at more log is call (λ e. w.0.left (c.call_in.ensures ∙ e))))
-          c.if-call_in-call.branch,
+      elim c.if-call_in-call.branch [
+        then-call_in-call w ↦ omega (arith, w.seen-is, l.invariant.2)
+      | else-call_in-call w ↦ omega (arith, w.seen-is, l.invariant.2)
+      ],
+      elim c.if-call_in-call.branch [
+        then-call_in-call w ↦
+        omega (arith, w.seen-is, l.invariant.3, one-of-call b n l.i l.at more log is call (sym c.call_in.ensures ∙ w.if-call_in-call.true))
+      | else-call_in-call w ↦
+        omega (arith, w.seen-is, l.invariant.3, none-of-call b n l.i l.at more log is call (λ e. w.if-call_in-call.false (c.call_in.ensures ∙ e)))
+      ],
     )
 
 pub returns : goal.returns

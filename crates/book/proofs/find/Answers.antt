@@ -12,10 +12,10 @@ use Rattle.rules.specs.Bytes.{u16_at}
 use borrow.Author.Tests.{not-true, not-false}
 use lib.ListN.{length}
 use mathlib.Core.Path.{◌≡◌, sym, ◌∙◌, ap, ap₂}
-use mathlib.Core.Logic.{⊎_elim}
 use mathlib.Core.List.{List}
 use Prim.Native.Nat.{ℕ, ◌+◌, ◌-◌, ◌≤◌}
 use Rattle.book.proofs.find.Goals as goal
+use Rattle.book.proofs.find.Goals.{then-call_in-call, else-call_in-call}
 
 pub returns-then-not-is_book : goal.returns-then-not-is_book
 returns-then-not-is_book c =
@@ -95,13 +95,13 @@ loop-i-preserved c =
     let rest = others b n l.i l.at more log is in
     let Goal : ℕ → Type 0 = λ (k : ℕ). (nth x.call k rest ≡ bookkeeping.find b x.call x.k) × (stands_at x.call k
     (l.at + length log) rest ≡ stands_at x.call x.k (start (u16_at b 4)) (logs_in b)) in
-    let on : Goal c.if-call_in-call.false =
-    ⊎_elim
-    (λ w. subst⁻¹ Goal w.2 (counted-off b n l.i l.at more log is x.call l.left l.invariant.2 l.invariant.3 (sym
-    c.call_in.ensures ∙ w.0.taken) (omega (arith, w.1.left))))
-    (λ w. subst⁻¹ Goal w.1 (passed-by b n l.i l.at more log is x.call l.left l.invariant.2 l.invariant.3 (λ e. w.0.left
-    (c.call_in.ensures ∙ e))))
-    c.if-call_in-call.branch
+    let on : Goal c.if-call_in-call.left =
+    elim c.if-call_in-call.branch [
+      then-call_in-call w ↦ subst⁻¹ Goal w.left-is (counted-off b n l.i l.at more log is x.call l.left l.invariant.2 l.invariant.3
+      (sym c.call_in.ensures ∙ w.if-call_in-call.true) (omega (arith, w.if-left-eq0.false)))
+    | else-call_in-call w ↦ subst⁻¹ Goal w.left-is (passed-by b n l.i l.at more log is x.call l.left l.invariant.2 l.invariant.3
+      (λ e. w.if-call_in-call.false (c.call_in.ensures ∙ e)))
+    ]
     in
     (omega arith, omega (arith, l.invariant.1, short), on.0, on.1)
 

@@ -8,7 +8,7 @@ use Rattle.text.specs.Written.{Put, counted}
 use Rattle.rules.specs.Lines.{ascii, decimal}
 use lib.ListN.{length, get_or}
 use mathlib.Core.Path.{refl}
-use mathlib.Core.List.{◌∷◌, ◌++◌, append_assoc}
+use mathlib.Core.List.{[], ◌∷◌, ◌++◌, append_assoc}
 use Prim.Native.Nat.{◌+◌, ◌≤◌, ◌<◌}
 use borrow.Author.Tests.{le-leb, lt-leb}
 use Rattle.book_text.proofs.put_added.Goals as goal

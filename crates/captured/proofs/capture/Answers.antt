@@ -24,18 +24,18 @@ pub put_log-requires : goal.put_log-requires
 put_log-requires c =
     -- What was recounted is the header of the call.
     let recount-is : let x = c.args in Recounted.header_of c.recount.result ≡ recounted (header_of x.call.now) (length (entries plain x.events.now)) (length x.replies.now) = let x = c.args in
-        let bs = x.events.now in
-        let n = c.event_count.ensures ∙ sym (entries-length plain bs (length bs / 10) 0) in
-        let old = c.read_header-old.ensures in
-        c.recount.ensures ∙ (λ i. recounted (old i) (n i) (length x.replies.now)) in
+    let bs = x.events.now in
+    let n = c.event_count.ensures ∙ sym (entries-length plain bs (length bs / 10) 0) in
+    let old = c.read_header-old.ensures in
+    c.recount.ensures ∙ (λ i. recounted (old i) (n i) (length x.replies.now)) in
     -- It is a call.
     let sound : is_call c.args.call.now ≡ true = sym c.is_call.ensures ∙ not-false _ c.if-not-is_call.false-raw in
     -- The arguments are those of the call.
     let arguments : let x = c.args in c.read_area-arguments.result.now ≡ argument_bytes (header_of x.call.now) x.call.now = let x = c.args in
-        c.read_area-arguments.ensures ∙ ap (λ (g : Header). argument_bytes g x.call.now) c.read_header-old.ensures in
+    c.read_area-arguments.ensures ∙ ap (λ (g : Header). argument_bytes g x.call.now) c.read_header-old.ensures in
     let new_is : let x = c.args in Recounts x.call.now (entries plain x.events.now) x.replies.now x.out.now sound (said c.in-Header.new) = let x = c.args in
-        recounts x.call.now (entries plain x.events.now) x.replies.now x.out.now sound
-        (ap Recounted.header_of (sym c.in-Header.is) ∙ recount-is) in
+    recounts x.call.now (entries plain x.events.now) x.replies.now x.out.now sound
+    (ap Recounted.header_of (sym c.in-Header.is) ∙ recount-is) in
     let x = c.args in
     rw arguments
     (places x.call.now (entries plain x.events.now) x.replies.now x.out.now sound new_is)
@@ -47,10 +47,10 @@ pub returns-in-TooLong : goal.returns-in-TooLong
 returns-in-TooLong c =
     -- What was recounted is the header of the call.
     let recount-is : let x = c.args in Recounted.header_of c.recount.result ≡ recounted (header_of x.call.now) (length (entries plain x.events.now)) (length x.replies.now) = let x = c.args in
-        let bs = x.events.now in
-        let n = c.event_count.ensures ∙ sym (entries-length plain bs (length bs / 10) 0) in
-        let old = c.read_header-old.ensures in
-        c.recount.ensures ∙ (λ i. recounted (old i) (n i) (length x.replies.now)) in
+    let bs = x.events.now in
+    let n = c.event_count.ensures ∙ sym (entries-length plain bs (length bs / 10) 0) in
+    let old = c.read_header-old.ensures in
+    c.recount.ensures ∙ (λ i. recounted (old i) (n i) (length x.replies.now)) in
     -- It is a call.
     let sound : is_call c.args.call.now ≡ true = sym c.is_call.ensures ∙ not-false _ c.if-not-is_call.false-raw in
     let x = c.args in
@@ -61,18 +61,18 @@ pub returns-in-Header : goal.returns-in-Header
 returns-in-Header c =
     -- What was recounted is the header of the call.
     let recount-is : let x = c.args in Recounted.header_of c.recount.result ≡ recounted (header_of x.call.now) (length (entries plain x.events.now)) (length x.replies.now) = let x = c.args in
-        let bs = x.events.now in
-        let n = c.event_count.ensures ∙ sym (entries-length plain bs (length bs / 10) 0) in
-        let old = c.read_header-old.ensures in
-        c.recount.ensures ∙ (λ i. recounted (old i) (n i) (length x.replies.now)) in
+    let bs = x.events.now in
+    let n = c.event_count.ensures ∙ sym (entries-length plain bs (length bs / 10) 0) in
+    let old = c.read_header-old.ensures in
+    c.recount.ensures ∙ (λ i. recounted (old i) (n i) (length x.replies.now)) in
     -- It is a call.
     let sound : is_call c.args.call.now ≡ true = sym c.is_call.ensures ∙ not-false _ c.if-not-is_call.false-raw in
     -- The arguments are those of the call.
     let arguments : let x = c.args in c.read_area-arguments.result.now ≡ argument_bytes (header_of x.call.now) x.call.now = let x = c.args in
-        c.read_area-arguments.ensures ∙ ap (λ (g : Header). argument_bytes g x.call.now) c.read_header-old.ensures in
+    c.read_area-arguments.ensures ∙ ap (λ (g : Header). argument_bytes g x.call.now) c.read_header-old.ensures in
     let new_is : let x = c.args in Recounts x.call.now (entries plain x.events.now) x.replies.now x.out.now sound (said c.in-Header.new) = let x = c.args in
-        recounts x.call.now (entries plain x.events.now) x.replies.now x.out.now sound
-        (ap Recounted.header_of (sym c.in-Header.is) ∙ recount-is) in
+    recounts x.call.now (entries plain x.events.now) x.replies.now x.out.now sound
+    (ap Recounted.header_of (sym c.in-Header.is) ∙ recount-is) in
     let x = c.args in
     written x.call.now (entries plain x.events.now) x.replies.now x.out.now sound new_is refl
     (rw arguments at c.put_log.ensures)

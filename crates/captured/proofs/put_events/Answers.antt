@@ -1,5 +1,5 @@
 -- `put_events` meets its contract: behind i turns the first i events stand in the buffer.
-use Prim.Native.Nat.{◌+◌, ◌*◌, ◌-◌, ◌/◌, ◌≤◌}
+use Prim.Native.Nat.{◌+◌, ◌*◌, ◌/◌, ◌≤◌}
 use native.Mathlib.Omega.{arith}
 use mathlib.Core.Path.{◌≡◌, sym, ◌∙◌, ap}
 use lib.ListN.{length}
@@ -21,24 +21,24 @@ pub overflow_mul-i : goal.overflow_mul-i
 overflow_mul-i c =
     -- There is room for all of them.
     let room : let x = c.args in x.at + c.event_count-n.result * event_size (form_of x.form) ≤ length x.out.now = let x = c.args in
-        let bs = x.events.now in
-        let n = c.event_count-n.ensures ∙ sym (entries-length plain bs (length bs / 10) 0) in
-        rw n c.requires in
+    let bs = x.events.now in
+    let n = c.event_count-n.ensures ∙ sym (entries-length plain bs (length bs / 10) 0) in
+    rw n c.requires in
     -- In a turn: the next event is among them.
     let turn : let x = c.args in x.at + (c.loop-i.i + 1) * event_size (form_of x.form) ≤ length x.out.now = let x = c.args in
-        omega (arith, room, fewer_bytes (form_of x.form) (c.loop-i.i + 1) c.event_count-n.result (omega arith)) in
+    omega (arith, room, fewer_bytes (form_of x.form) (c.loop-i.i + 1) c.event_count-n.result (omega arith)) in
     rw c.event_size-size.ensures (omega (arith, turn))
 
 pub overflow_add-at : goal.overflow_add-at
 overflow_add-at c =
     -- There is room for all of them.
     let room : let x = c.args in x.at + c.event_count-n.result * event_size (form_of x.form) ≤ length x.out.now = let x = c.args in
-        let bs = x.events.now in
-        let n = c.event_count-n.ensures ∙ sym (entries-length plain bs (length bs / 10) 0) in
-        rw n c.requires in
+    let bs = x.events.now in
+    let n = c.event_count-n.ensures ∙ sym (entries-length plain bs (length bs / 10) 0) in
+    rw n c.requires in
     -- In a turn: the next event is among them.
     let turn : let x = c.args in x.at + (c.loop-i.i + 1) * event_size (form_of x.form) ≤ length x.out.now = let x = c.args in
-        omega (arith, room, fewer_bytes (form_of x.form) (c.loop-i.i + 1) c.event_count-n.result (omega arith)) in
+    omega (arith, room, fewer_bytes (form_of x.form) (c.loop-i.i + 1) c.event_count-n.result (omega arith)) in
     rw c.event_size-size.ensures (omega (arith, turn))
 
 pub overflow_add-i : goal.overflow_add-i
@@ -51,12 +51,12 @@ pub loop-i-preserved : goal.loop-i-preserved
 loop-i-preserved c =
     -- There is room for all of them.
     let room : let x = c.args in x.at + c.event_count-n.result * event_size (form_of x.form) ≤ length x.out.now = let x = c.args in
-        let bs = x.events.now in
-        let n = c.event_count-n.ensures ∙ sym (entries-length plain bs (length bs / 10) 0) in
-        rw n c.requires in
+    let bs = x.events.now in
+    let n = c.event_count-n.ensures ∙ sym (entries-length plain bs (length bs / 10) 0) in
+    rw n c.requires in
     -- In a turn: the next event is among them.
     let turn : let x = c.args in x.at + (c.loop-i.i + 1) * event_size (form_of x.form) ≤ length x.out.now = let x = c.args in
-        omega (arith, room, fewer_bytes (form_of x.form) (c.loop-i.i + 1) c.event_count-n.result (omega arith)) in
+    omega (arith, room, fewer_bytes (form_of x.form) (c.loop-i.i + 1) c.event_count-n.result (omega arith)) in
     let l = c.loop-i in
     let x = c.args in (
       omega arith,

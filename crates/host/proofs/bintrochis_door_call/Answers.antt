@@ -17,14 +17,14 @@ returns-then-not-fits c =
     let x = c.args in
     let l = x.arguments.now in
     let asks = told_of c.fields-h.ensures c.in-Ask.is c.ask_of.ensures in
-    asks_none (suited x.limit (length l) c.fields-h.ensures asks.0 c.fits2.ensures ∙ not-true _ c.if-not-fits.true-raw)
+    asks_none (suited x.limit (length l) c.fields-h.ensures asks.0 c.fits.ensures ∙ not-true _ c.if-not-fits.true-raw)
 
 pub returns : goal.returns
 returns c =
     let x = c.args in
     let l = x.arguments.now in
     let asks = told_of c.fields-h.ensures c.in-Ask.is c.ask_of.ensures in
-    asks-in-bytes x.limit l (suited x.limit (length l) c.fields-h.ensures asks.0 c.fits2.ensures ∙ not-false _ c.if-not-fits.false-raw)
+    asks-in-bytes x.limit l (suited x.limit (length l) c.fields-h.ensures asks.0 c.fits.ensures ∙ not-false _ c.if-not-fits.false-raw)
     c.part-address.ensures
     c.part-size.ensures
     c.part-data.ensures

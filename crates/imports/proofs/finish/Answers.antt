@@ -45,10 +45,10 @@ returns-else-tally c =
             take-inside,
             take-inside,
             take-inside,
-            ← c.line-ends.ensures,
-            eq-eqb c.line-ends.result.«refused» 0 c.if1.false,
-            c.enum-told2.given.1,
-            c.if2.false,
+            ← c.line_ends-import.ensures,
+            eq-eqb c.line_ends-import.result.«refused» 0 c.if-import-ne0.false,
+            c.in-At.is,
+            c.if-tally.false,
           );
       inside =
           rw (c.inside.ensures, c.events_size.ensures, c.replies_size.ensures)

@@ -1,7 +1,6 @@
 -- `imports::note_given` meets its contract.
 use Rattle.imports.proofs.Noting.{as_it_was, given-told}
 use Rattle.imports.specs.Held.{start_of}
-use Rattle.importing.specs.Kept.{note_reply}
 use Rattle.isotp.specs.declared.Gives.{Gives}
 use Rattle.isotp.specs.Held.{given_of}
 use lib.ListN.{length}

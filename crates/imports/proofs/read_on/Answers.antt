@@ -9,11 +9,11 @@ use lib.Seq.{take_all}
 use lib.Dec.{eqb}
 use lib.ListN.{length, get_or, take}
 use mathlib.Core.Bool.{true, false}
-use mathlib.Core.Logic.{⊎_elim}
 use mathlib.Core.Path.{◌≡◌, refl, ◌∙◌, ap}
 use native.Mathlib.Omega.{arith}
-use Prim.Native.Nat.{ℕ, ◌+◌, ◌-◌}
+use Prim.Native.Nat.{ℕ, ◌+◌}
 use Rattle.imports.proofs.read_on.Goals as goal
+use Rattle.imports.proofs.read_on.Goals.{then-c-eq10, else-c-eq10}
 
 -- An LF ends the line; another byte is the line's.
 at-lf : (room ask answer c : ℕ) (s : Stream) → eqb c 10 ≡ true →
@@ -35,33 +35,31 @@ bounds-chunk-i c = omega arith
 pub overflow_add-i : goal.overflow_add-i
 overflow_add-i c = omega arith
 
-pub loop-i-smaller : goal.loop-i-smaller
-loop-i-smaller c = ⊎_elim (λ w. omega arith) (λ w. omega arith) c.if-c-eq10.branch
-
 pub loop-i-preserved : goal.loop-i-preserved
 loop-i-preserved c =
     let inv = c.loop-i.invariant in
     let chunk = c.args.chunk.now in
     let ch = get_or chunk c.loop-i.i 0 in
     let room = length c.args.out.now in
-    let held = stream_of (record { reader = c.loop-i.reader; import = c.loop-i.import }) c.loop-i.asked c.loop-i.answered
-    c.loop-i.out c.loop-i.log in
+    let held =
+    stream_of (record { reader = c.loop-i.reader; import = c.loop-i.import }) c.loop-i.asked c.loop-i.answered c.loop-i.out c.loop-i.log in
     let begun₀ = stream_of c.args.s c.args.asked.now c.args.answered.now c.args.out.now c.args.log.now in
-    let on : byte (length c.loop-i.out) c.args.ask c.args.answer held ch ≡
-    bytes room c.args.ask c.args.answer begun₀ (take (c.loop-i.i + 1) chunk) =
+    let on : byte (length c.loop-i.out) c.args.ask c.args.answer held ch ≡ bytes room c.args.ask c.args.answer begun₀ (take (c.loop-i.i + 1) chunk) =
     ap (λ (n : ℕ). byte n c.args.ask c.args.answer held ch) inv.1.1
     ∙ ap (λ (x : Stream). byte room c.args.ask c.args.answer x ch) inv.1.0
     ∙ one_more room c.args.ask c.args.answer c.loop-i.i begun₀ chunk c.loop-i-test.true in (
       omega arith,
       (
-        ⊎_elim
-            (λ w. rw (w.9, w.10, w.11, w.12, w.13, w.14, w.8.ensures)
-            (ap (stream begun) w.5.ensures ∙ at-lf (length c.loop-i.out) c.args.ask c.args.answer ch held
-            (eq-eqb ch 10 w.0.taken) ∙ on))
-            (λ w. rw (w.2, w.3, w.4, w.5, w.6, w.7, w.1.ensures)
-            (at_other (length c.loop-i.out) c.args.ask c.args.answer ch held (ne_eqb ch 10 w.0.left) ∙ on))
-            c.if-c-eq10.branch,
-        ⊎_elim (λ w. rw w.11 (w.5.kept.1.1.1.1.1.0 ∙ inv.1.1)) (λ w. rw w.4 inv.1.1) c.if-c-eq10.branch,
+        elim c.if-c-eq10.branch [
+          | then-c-eq10 w ↦
+              rw (w.asked-is, w.answered-is, w.out-is, w.log-is, w.reader-is, w.import-is, w.begin-reader.ensures)
+              (ap (stream begun) w.line_ends-import.ensures ∙ at-lf (length c.loop-i.out) c.args.ask c.args.answer ch held
+              (eq-eqb ch 10 w.if-c-eq10.true) ∙ on)
+          | else-c-eq10 w ↦
+              rw (w.asked-is, w.answered-is, w.out-is, w.log-is, w.reader-is, w.import-is, w.next-reader.ensures)
+              (at_other (length c.loop-i.out) c.args.ask c.args.answer ch held (ne_eqb ch 10 w.if-c-eq10.false) ∙ on)
+        ],
+        c.if-c-eq10.auto.out ∙ inv.1.1,
       ),
     )
 

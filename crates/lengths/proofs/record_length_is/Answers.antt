@@ -57,4 +57,4 @@ loop-i-preserved c =
     steps _ _ _ _ _ c.loop-i.invariant (omega (arith, c.loop-i-test.true)) w.0 w.1 c.if-left-wide.false
 
 pub returns : goal.returns
-returns c = all-compared _ _ _ _ c.loop-i.invariant (omega (arith, c.loop-i-test.false))
+returns c = all-compared _ _ _ _ c.loop-i.invariant (omega arith)

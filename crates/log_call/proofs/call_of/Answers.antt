@@ -2,7 +2,6 @@
 use native.Mathlib.Omega.{arith}
 use mathlib.Core.Path.{refl}
 use Rattle.logs.specs.Layout.{said}
-use Rattle.logs.proofs.Layouts.{above}
 use Rattle.log_call.proofs.Headers.{sound-at, needed, no_call, data_is}
 use Rattle.log_call.proofs.call_of.Goals as goal
 
@@ -67,4 +66,4 @@ pub returns-in-15 : goal.returns-in-15
 returns-in-15 c = λ a s d. rw c.in-15.is
 
 pub returns-in_default : goal.returns-in_default
-returns-in_default c = λ a s d. no_call (said c.args.h) a s d (above c.args.h.call 16 c.in_default.rest)
+returns-in_default c = λ a s d. no_call (said c.args.h) a s d (omega arith)

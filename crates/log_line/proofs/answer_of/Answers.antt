@@ -19,17 +19,12 @@ returns-in-Unsound c =
 
 pub returns-in-Ask : goal.returns-in-Ask
 returns-in-Ask c =
-    let «data» = c.before.before.before.before.before.before.before.before.before.before in
-    let size = «data».before in
-    let address = size.before in
-    let told = address.before.before in
-    let read = told.before.before in
-    let l = read.before.before.args.log.now in
-    let h = said told.h.given.0.0 in
-    let laid = subst (LaidIn l) told.h.given.1 read.Laid-in.ensures in
+    let l = c.args.log.now in
+    let h = said c.in-Out.h in
+    let laid = subst (LaidIn l) c.in-Out.is c.laid_in.ensures in
     let asks = subst (AskedBy h) c.in-Ask.is c.ask_of.ensures in
     let x =
-    answered l h laid.1 asks.1 address.address-of.ensures size.type_size.ensures «data».data_of.ensures
+    answered l h laid.1 asks.1 c.address_of-address.ensures c.size_of-size.ensures c.data_of-data.ensures
     c.events_of-events.ensures c.replies_of-replies.ensures c.in_session-answered.ensures
     in
     (sound-layout l laid.1 laid.0 asks.0, laid.1, x)

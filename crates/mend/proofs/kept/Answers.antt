@@ -2,7 +2,6 @@
 use Prim.Native.Nat.{◌-◌, ◌/◌, min}
 use native.Mathlib.Nat.{sub-zero}
 use native.Mathlib.Omega.{arith}
-use mathlib.Core.Logic.{⊎_elim}
 use mathlib.Core.Path.{◌≡◌, sym, ◌∙◌, ap}
 use lib.ListN.{length}
 use borrow.Author.Tests.{not-true, not-false}
@@ -11,6 +10,7 @@ use Rattle.exchange.specs.Meaning.{form_of, entry_of}
 use Rattle.mending.specs.Mend.{run}
 use Rattle.mend.proofs.Counting.{goes_further, ends-here, no_more, of-first}
 use Rattle.mend.proofs.kept.Goals as goal
+use Rattle.mend.proofs.kept.Goals.{then-n-gt-MOST_EVENTS, else-n-gt-MOST_EVENTS}
 
 pub loop-i-init : goal.loop-i-init
 loop-i-init c =
@@ -21,7 +21,7 @@ loop-i-init c =
 pub returns-then-not-goes_on : goal.returns-then-not-goes_on
 returns-then-not-goes_on c =
     -- How many events are looked at.
-    let looked : let a = c.args in c.if-n-gt-MOST_EVENTS.n ≡ min 512 (length a.events.now / event_size (form_of a.form)) = ⊎_elim (λ w. omega (arith, c.event_count-n.ensures)) (λ w. omega (arith, c.event_count-n.ensures)) c.if-n-gt-MOST_EVENTS.branch in
+    let looked : let a = c.args in c.if-n-gt-MOST_EVENTS.n ≡ min 512 (length a.events.now / event_size (form_of a.form)) = elim c.if-n-gt-MOST_EVENTS.branch [ then-n-gt-MOST_EVENTS w ↦ omega (arith, c.event_count-n.ensures) | else-n-gt-MOST_EVENTS w ↦ omega (arith, c.event_count-n.ensures) ] in
     let l = c.loop-i in
     let a = c.args in
     let form = form_of a.form in
@@ -34,7 +34,7 @@ returns-then-not-goes_on c =
 pub overflow_add-i : goal.overflow_add-i
 overflow_add-i c =
     -- How many events are looked at.
-    let looked : let a = c.args in c.if-n-gt-MOST_EVENTS.n ≡ min 512 (length a.events.now / event_size (form_of a.form)) = ⊎_elim (λ w. omega (arith, c.event_count-n.ensures)) (λ w. omega (arith, c.event_count-n.ensures)) c.if-n-gt-MOST_EVENTS.branch in
+    let looked : let a = c.args in c.if-n-gt-MOST_EVENTS.n ≡ min 512 (length a.events.now / event_size (form_of a.form)) = elim c.if-n-gt-MOST_EVENTS.branch [ then-n-gt-MOST_EVENTS w ↦ omega (arith, c.event_count-n.ensures) | else-n-gt-MOST_EVENTS w ↦ omega (arith, c.event_count-n.ensures) ] in
     omega (arith, looked)
 
 pub loop-i-smaller : goal.loop-i-smaller
@@ -53,7 +53,7 @@ loop-i-preserved c =
 pub returns : goal.returns
 returns c =
     -- How many events are looked at.
-    let looked : let a = c.args in c.if-n-gt-MOST_EVENTS.n ≡ min 512 (length a.events.now / event_size (form_of a.form)) = ⊎_elim (λ w. omega (arith, c.event_count-n.ensures)) (λ w. omega (arith, c.event_count-n.ensures)) c.if-n-gt-MOST_EVENTS.branch in
+    let looked : let a = c.args in c.if-n-gt-MOST_EVENTS.n ≡ min 512 (length a.events.now / event_size (form_of a.form)) = elim c.if-n-gt-MOST_EVENTS.branch [ then-n-gt-MOST_EVENTS w ↦ omega (arith, c.event_count-n.ensures) | else-n-gt-MOST_EVENTS w ↦ omega (arith, c.event_count-n.ensures) ] in
     let l = c.loop-i in
     let a = c.args in
     let form = form_of a.form in

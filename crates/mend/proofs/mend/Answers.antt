@@ -16,18 +16,18 @@ use Rattle.mend.proofs.mend.Goals as goal
 
 pub returns-then-not-headed : goal.returns-then-not-headed
 returns-then-not-headed c =
-    let log = c.args.log.now in
-    let read = c.part-read.result.now in
-    let old = said c.read_header-old.result in
+    let log : List ℕ = c.args.log.now in
+    let read : List ℕ = c.part-read.result.now in
+    let old : Header = said c.read_header-old.result in
     let judged : mend log ≡ mending old read = as_read log read old c.part-read.ensures c.read_header-old.ensures in
     refuses log c.args.out.now 18
     (judged ∙ gives-18 old read (sym c.headed.ensures ∙ not-true _ c.if-not-headed.true-raw))
 
 pub returns-then-not-argued : goal.returns-then-not-argued
 returns-then-not-argued c =
-    let log = c.args.log.now in
-    let read = c.part-read.result.now in
-    let old = said c.read_header-old.result in
+    let log : List ℕ = c.args.log.now in
+    let read : List ℕ = c.part-read.result.now in
+    let old : Header = said c.read_header-old.result in
     let judged : mend log ≡ mending old read = as_read log read old c.part-read.ensures c.read_header-old.ensures in
     -- A header that passes, and arguments that do.
     let headed-so : headed old read ≡ true = sym c.headed.ensures ∙ not-false _ c.if-not-headed.false-raw in
@@ -36,9 +36,9 @@ returns-then-not-argued c =
 
 pub corrected-new-requires : goal.corrected-new-requires
 corrected-new-requires c =
-    let log = c.args.log.now in
-    let read = c.part-read.result.now in
-    let old = said c.read_header-old.result in
+    let log : List ℕ = c.args.log.now in
+    let read : List ℕ = c.part-read.result.now in
+    let old : Header = said c.read_header-old.result in
     let argued-so : argued old read ≡ true = sym c.argued.ensures ∙ not-false _ c.if-not-argued.false-raw in
     let whole : header_size (form_in old) + old.arguments ≤ length read = leb-true _ _ argued-so in
     let kept-so : c.kept-events.result ≡ kept old read = c.kept-events.ensures ∙ counts old read c.form_in.ensures c.events_in.ensures c.left_in-left.ensures in
@@ -50,8 +50,8 @@ corrected-new-requires c =
 
 pub put_log-requires : goal.put_log-requires
 put_log-requires c =
-    let read = c.part-read.result.now in
-    let old = said c.read_header-old.result in
+    let read : List ℕ = c.part-read.result.now in
+    let old : Header = said c.read_header-old.result in
     let argued-so : argued old read ≡ true = sym c.argued.ensures ∙ not-false _ c.if-not-argued.false-raw in
     let whole : header_size (form_in old) + old.arguments ≤ length read = leb-true _ _ argued-so in
     let kept-so : c.kept-events.result ≡ kept old read = c.kept-events.ensures ∙ counts old read c.form_in.ensures c.events_in.ensures c.left_in-left.ensures in
@@ -61,9 +61,9 @@ put_log-requires c =
 
 pub returns-then-not-put_log : goal.returns-then-not-put_log
 returns-then-not-put_log c =
-    let log = c.args.log.now in
-    let read = c.part-read.result.now in
-    let old = said c.read_header-old.result in
+    let log : List ℕ = c.args.log.now in
+    let read : List ℕ = c.part-read.result.now in
+    let old : Header = said c.read_header-old.result in
     let judged : mend log ≡ mending old read = as_read log read old c.part-read.ensures c.read_header-old.ensures in
     -- A header that passes, and arguments that do.
     let headed-so : headed old read ≡ true = sym c.headed.ensures ∙ not-false _ c.if-not-headed.false-raw in
@@ -77,9 +77,9 @@ overflow_cast-result c = omega (arith, c.struct_known-1.given)
 
 pub returns : goal.returns
 returns c =
-    let log = c.args.log.now in
-    let read = c.part-read.result.now in
-    let old = said c.read_header-old.result in
+    let log : List ℕ = c.args.log.now in
+    let read : List ℕ = c.part-read.result.now in
+    let old : Header = said c.read_header-old.result in
     let judged : mend log ≡ mending old read = as_read log read old c.part-read.ensures c.read_header-old.ensures in
     -- A header that passes, and arguments that do.
     let headed-so : headed old read ≡ true = sym c.headed.ensures ∙ not-false _ c.if-not-headed.false-raw in

@@ -1,5 +1,6 @@
 -- `put_log` meets its contract.
-use mathlib.Core.List.{◌++◌}
+use Prim.Native.Nat.{ℕ}
+use mathlib.Core.List.{List, ◌++◌}
 use mathlib.Core.Path.{subst}
 use borrow.Author.Tests.{not-true, not-false}
 use Rattle.rules.specs.Logs.{Header}
@@ -13,9 +14,9 @@ use Rattle.mend.proofs.put_log.Goals as goal
 pub returns-then-not-put_run : goal.returns-then-not-put_run
 returns-then-not-put_run c =
     -- The three parts, and where the last two stand.
-    let header = put_header (mended_header (said c.args.old) c.args.log.now) in
-    let arguments = arguments_in (said c.args.old) c.args.log.now in
-    let rest = kept_bytes (said c.args.old) c.args.log.now ++ left_in (said c.args.old) c.args.log.now in
+    let header : List ℕ = put_header (mended_header (said c.args.old) c.args.log.now) in
+    let arguments : List ℕ = arguments_in (said c.args.old) c.args.log.now in
+    let rest : List ℕ = kept_bytes (said c.args.old) c.args.log.now ++ left_in (said c.args.old) c.args.log.now in
     let x = c.args in
     let old = said x.old in
     let l = x.log.now in
@@ -25,9 +26,9 @@ returns-then-not-put_run c =
 pub returns-then-not-copy_into : goal.returns-then-not-copy_into
 returns-then-not-copy_into c =
     -- The three parts, and where the last two stand.
-    let header = put_header (mended_header (said c.args.old) c.args.log.now) in
-    let arguments = arguments_in (said c.args.old) c.args.log.now in
-    let rest = kept_bytes (said c.args.old) c.args.log.now ++ left_in (said c.args.old) c.args.log.now in
+    let header : List ℕ = put_header (mended_header (said c.args.old) c.args.log.now) in
+    let arguments : List ℕ = arguments_in (said c.args.old) c.args.log.now in
+    let rest : List ℕ = kept_bytes (said c.args.old) c.args.log.now ++ left_in (said c.args.old) c.args.log.now in
     let x = c.args in
     let old = said x.old in
     let l = x.log.now in
@@ -38,9 +39,9 @@ returns-then-not-copy_into c =
 pub returns : goal.returns
 returns c =
     -- The three parts, and where the last two stand.
-    let header = put_header (mended_header (said c.args.old) c.args.log.now) in
-    let arguments = arguments_in (said c.args.old) c.args.log.now in
-    let rest = kept_bytes (said c.args.old) c.args.log.now ++ left_in (said c.args.old) c.args.log.now in
+    let header : List ℕ = put_header (mended_header (said c.args.old) c.args.log.now) in
+    let arguments : List ℕ = arguments_in (said c.args.old) c.args.log.now in
+    let rest : List ℕ = kept_bytes (said c.args.old) c.args.log.now ++ left_in (said c.args.old) c.args.log.now in
     let x = c.args in
     let old = said x.old in
     let l = x.log.now in

@@ -12,18 +12,14 @@ use Rattle.mending.proofs.Written.{kept_whole}
 use Rattle.mend.proofs.Answers.{as_many, behind-events}
 use Rattle.mend.proofs.put_run.Goals as goal
 
--- What is left of the reply area went behind the events, or had no room there.
-replies : (c : goal.After-copy_into) (b : Bool) → c.copy_into.result ≡ b → let x = c.args in
-    Copied x.out.now (x.new.events_at + length (kept_bytes (said x.old) x.log.now)) (left_in (said x.old) x.log.now) b c.copy_into.new.buffer
-replies c b told =
-    let x = c.args in
-    rw (told, c.left_in.ensures, behind-events x.new (said x.old) x.log.now c.requires) at c.copy_into.ensures
-
 pub returns-then-not-copy_into : goal.returns-then-not-copy_into
 returns-then-not-copy_into c =
+    -- What is left of the reply area went behind the events, or had no room there.
+    let replies : (b : Bool) → c.copy_into.result ≡ b → let x = c.args in Copied x.out.now (x.new.events_at + length (kept_bytes (said x.old) x.log.now)) (left_in (said x.old) x.log.now) b c.copy_into.new.buffer = λ b told. let x = c.args in
+        rw (told, c.left_in.ensures, behind-events x.new (said x.old) x.log.now c.requires) at c.copy_into.ensures in
     let x = c.args in
     neither x.out.now x.new.events_at (kept_bytes (said x.old) x.log.now) (left_in (said x.old) x.log.now)
-    (replies c.before.before.before false (not-true _ c.if-not-copy_into.true-raw))
+    (replies false (not-true _ c.if-not-copy_into.true-raw))
 
 pub put_events-requires : goal.put_events-requires
 put_events-requires c =
@@ -33,8 +29,11 @@ put_events-requires c =
 
 pub returns : goal.returns
 returns c =
+    -- What is left of the reply area went behind the events, or had no room there.
+    let replies : (b : Bool) → c.copy_into.result ≡ b → let x = c.args in Copied x.out.now (x.new.events_at + length (kept_bytes (said x.old) x.log.now)) (left_in (said x.old) x.log.now) b c.copy_into.new.buffer = λ b told. let x = c.args in
+        rw (told, c.left_in.ensures, behind-events x.new (said x.old) x.log.now c.requires) at c.copy_into.ensures in
     let x = c.args in
     let old = said x.old in
     let l = x.log.now in
-    both x.out.now x.new.events_at (kept_bytes old l) (left_in old l) (replies c.before.before.before.before.before.before.before.before.before true (not-false _ c.if-not-copy_into.false-raw))
+    both x.out.now x.new.events_at (kept_bytes old l) (left_in old l) (replies true (not-false _ c.if-not-copy_into.false-raw))
     (rw (c.form_in.ensures, c.events_in.ensures, as_many x.new old l c.requires) at c.put_events.ensures)

@@ -1,4 +1,5 @@
 -- `off_field::name_at` meets its contract.
+use Prim.Native.Nat.{◌≤◌}
 use native.Mathlib.Omega.{arith}
 use mathlib.Core.List.{[]}
 use mathlib.Core.Path.{sym}
@@ -58,4 +59,4 @@ pub returns-in-16 : goal.returns-in-16
 returns-in-16 c = rw c.in-16.is
 
 pub returns-in_default : goal.returns-in_default
-returns-in_default c = sym (get_or-eq_default names [] (omega arith))
+returns-in_default c = let far : 17 ≤ c.args.i = omega arith in sym (get_or-eq_default names [] far)

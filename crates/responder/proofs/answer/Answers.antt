@@ -1,7 +1,7 @@
 -- `responder::answer` meets its contract, arm by arm.
 use Prim.Native.Nat.{ℕ, ◌/◌, ◌%◌}
 use mathlib.Core.Bool.{Bool, cond}
-use mathlib.Core.List.{◌∷◌}
+use mathlib.Core.List.{[], ◌∷◌}
 use mathlib.Core.Path.{refl, sym, ◌∙◌, ap, subst}
 use borrow.Author.Tests.{eq-eqb, ne_eqb}
 use lib.ListN.{get_or}
@@ -17,11 +17,11 @@ unfolding store_of
 returns-then-sub-eq4 c =
     let l = c.args.store.now in
     let q = c.args.request.now in
-    let sub = c.byte-at2.ensures in
+    let sub = c.byte_at-sub.ensures in
     let power = c.byte_at.ensures in
-    let four = eq-eqb (get_or q 1 0 % 128) 4 (sym (ap (λ (b : ℕ). b % 128) sub) ∙ c.if1.true) in
+    let four = eq-eqb (get_or q 1 0 % 128) 4 (sym (ap (λ (b : ℕ). b % 128) sub) ∙ c.if-sub-eq4.true) in
     let said = (λ j. 0x51 ∷ sub j % 128 ∷ power j ∷ []) ∙ sym (ap (λ (b : Bool). 0x51 ∷ get_or q 1 0 % 128 ∷ cond b (get_or l 8 0 ∷ []) []) four) in
-    replies l q c.args.reply.now Reset (subst (λ (d : Decision). Decides l q d) c.enum-told3.given.1 c.requires) tt refl said c.put-then-sub-eq4.ensures
+    replies l q c.args.reply.now Reset (subst (λ (d : Decision). Decides l q d) c.in-Reset.is c.requires) tt refl said c.put-then-sub-eq4.ensures
 
 pub write-requires : goal.write-requires
 write-requires c =
@@ -45,9 +45,9 @@ unfolding store_of
 returns-in-Session c =
     let l = c.args.store.now in
     let q = c.args.request.now in
-    let sub = c.byte-at2.ensures in
+    let sub = c.byte_at-sub.ensures in
     let session = c.part.ensures in
-    replies l q c.args.reply.now Session (subst (λ (d : Decision). Decides l q d) c.enum-told2.given.1 c.requires) tt refl (λ j. 0x50 ∷ sub j % 128 ∷ session j) c.put-in-Session.ensures
+    replies l q c.args.reply.now Session (subst (λ (d : Decision). Decides l q d) c.in-Session.is c.requires) tt refl (λ j. 0x50 ∷ sub j % 128 ∷ session j) c.put-in-Session.ensures
 
 pub returns-else-sub-eq4 : goal.returns-else-sub-eq4
 returns-else-sub-eq4 c =
@@ -71,17 +71,17 @@ returns-in-Count c =
     let q = c.args.request.now in
     let mask = c.byte_at-in-Count.ensures in
     let format = c.byte_at-in-Count-2.ensures in
-    let n = c.count.ensures in
-    replies l q c.args.reply.now Count (subst (λ (d : Decision). Decides l q d) c.enum-told5.given.1 c.requires) tt refl (λ j. 0x59 ∷ 0x01 ∷ mask j ∷ format j ∷ n j / 256 ∷ n j % 256 ∷ []) c.put-in-Count.ensures
+    let n = c.count-n.ensures in
+    replies l q c.args.reply.now Count (subst (λ (d : Decision). Decides l q d) c.in-Count.is c.requires) tt refl (λ j. 0x59 ∷ 0x01 ∷ mask j ∷ format j ∷ n j / 256 ∷ n j % 256 ∷ []) c.put-in-Count.ensures
 
 pub returns-in-ReadRecord : goal.returns-in-ReadRecord
 returns-in-ReadRecord c =
     let l = c.args.store.now in
     let q = c.args.request.now in
-    let sub = c.byte-at2.ensures in
-    let low = c.byte-at3.ensures in
+    let sub = c.byte_at-sub.ensures in
+    let low = c.byte_at-low.ensures in
     let bytes = c.part-in-ReadRecord.ensures in
-    replies l q c.args.reply.now (ReadRecord _ _) (subst (λ (d : Decision). Decides l q d) c.decision2.given.1 c.requires) tt refl (λ j. 0x62 ∷ sub j ∷ low j ∷ bytes j) c.put-in-ReadRecord.ensures
+    replies l q c.args.reply.now (ReadRecord _ _) (subst (λ (d : Decision). Decides l q d) c.in-ReadRecord.is c.requires) tt refl (λ j. 0x62 ∷ sub j ∷ low j ∷ bytes j) c.put-in-ReadRecord.ensures
 
 pub returns-in-ReadMemory : goal.returns-in-ReadMemory
 returns-in-ReadMemory c =

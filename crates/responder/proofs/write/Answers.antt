@@ -1,7 +1,7 @@
 -- `responder::write` meets its contract.
 use Prim.Native.Nat.{ℕ}
 use native.Mathlib.Omega.{arith}
-use mathlib.Core.List.{List, ◌∷◌}
+use mathlib.Core.List.{List, [], ◌∷◌}
 use mathlib.Core.Path.{◌∙◌, ap, subst}
 use lib.ListN.{length, drop, length-drop}
 use lib.Seq.{take_all}

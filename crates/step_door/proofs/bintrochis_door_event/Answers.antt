@@ -1,5 +1,7 @@
 -- `step_door::bintrochis_door_event` meets its contract.
 use mathlib.Core.Path.{subst}
+use Rattle.steps.specs.declared.Engine.{Engine}
+use Rattle.steps.specs.declared.Stepped.{Stepped}
 use Rattle.steps.specs.Stepping.{Hands}
 use Rattle.state_numbers.specs.Kept.{AskedIn}
 use Rattle.step_door.specs.Stepping.{address_in, size_in, entry}
@@ -8,14 +10,14 @@ use Rattle.step_door.proofs.bintrochis_door_event.Goals as goal
 
 pub returns-then-s-ne-WAITING : goal.returns-then-s-ne-WAITING
 returns-then-s-ne-WAITING c =
-    let hands = λ e y. let a = c.args in
+    let hands : Engine → Stepped → Type 0 = λ e y. let a = c.args in
         let l = a.state.now in
         Hands e (address_in l a.request.now) (size_in l a.request.now) (entry a.time a.kind a.offset a.size a.source) a.replies.now y in
     was_settled c.args.state.now hands c.if-s-ne-WAITING.true
 
 pub returns-in_default : goal.returns-in_default
 returns-in_default c =
-    let hands = λ e y. let a = c.args in
+    let hands : Engine → Stepped → Type 0 = λ e y. let a = c.args in
         let l = a.state.now in
         Hands e (address_in l a.request.now) (size_in l a.request.now) (entry a.time a.kind a.offset a.size a.source) a.replies.now y in
     let l = c.args.state.now in
@@ -23,7 +25,7 @@ returns-in_default c =
 
 pub returns-then-refusal-ne0 : goal.returns-then-refusal-ne0
 returns-then-refusal-ne0 c =
-    let hands = λ e y. let a = c.args in
+    let hands : Engine → Stepped → Type 0 = λ e y. let a = c.args in
         let l = a.state.now in
         Hands e (address_in l a.request.now) (size_in l a.request.now) (entry a.time a.kind a.offset a.size a.source) a.replies.now y in
     let l = c.args.state.now in
@@ -32,7 +34,7 @@ returns-then-refusal-ne0 c =
 
 pub returns : goal.returns
 returns c =
-    let hands = λ e y. let a = c.args in
+    let hands : Engine → Stepped → Type 0 = λ e y. let a = c.args in
         let l = a.state.now in
         Hands e (address_in l a.request.now) (size_in l a.request.now) (entry a.time a.kind a.offset a.size a.source) a.replies.now y in
     let l = c.args.state.now in

@@ -9,4 +9,4 @@ returns-in-InvalidResponseLength c = c.finds_length.ensures ∙ rw c.in-InvalidR
 
 pub returns-in_default : goal.returns-in_default
 returns-in_default c = let a = c.args in
-    ap (eqb a.code) (c.deviation_number.ensures ∙ own-number a.deviation c.in_default.keys2)
+    ap (eqb a.code) (c.deviation_number.ensures ∙ own-number a.deviation c.in_default.not-InvalidResponseLength)

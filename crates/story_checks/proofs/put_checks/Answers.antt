@@ -1,8 +1,7 @@
 -- `story_checks::put_checks` meets its contract.
 use Prim.Native.Nat.{ℕ, ◌/◌}
-use mathlib.Core.List.{List}
+use mathlib.Core.List.{List, []}
 use mathlib.Core.Path.{sym, ◌∙◌, ap}
-use borrow.Author.Tests.{not-true, not-false}
 use lib.Seq.{length-take-le}
 use Rattle.exchange.specs.Meaning.{outcome_of}
 use Rattle.text.proofs.Adding.{nothing, saying}
@@ -12,14 +11,14 @@ use Rattle.story_checks.proofs.put_checks.Goals as goal
 
 pub returns-then-not-is_positive : goal.returns-then-not-is_positive
 returns-then-not-is_positive c = let a = c.args in
-    saying (none_told a.strict a.call a.address a.size a.reply.now _ _ (sym c.is_positive.ensures ∙ not-true _ c.if-not-is_positive.true-raw)) (nothing _ _)
+    saying (none_told a.strict a.call a.address a.size a.reply.now _ _ (sym c.is_positive.ensures ∙ c.if-not-is_positive.true)) (nothing _ _)
 
 pub returns-then-not-strict : goal.returns-then-not-strict
 returns-then-not-strict c =
     let a = c.args in
-    let heard = sym c.is_positive.ensures ∙ not-false _ c.if-not-is_positive.false-raw in
+    let heard = sym c.is_positive.ensures ∙ c.if-not-is_positive.false in
     let said = if-so (outcome_of [] a.heard) _ heard in
-    rw (not-true a.strict c.if-not-strict.true-raw) (saying said c.put_lenient.ensures)
+    rw c.if-not-strict.true (saying said c.put_lenient.ensures)
 
 pub slice_bounds-codes-end : goal.slice_bounds-codes-end
 slice_bounds-codes-end c = c.row_of-row.ensures.1
@@ -30,7 +29,7 @@ slice_bounds-put_row-end c = sym (length-take-le _ _ c.row_of-row.ensures.1)
 pub returns : goal.returns
 returns c =
     let a = c.args in
-    let heard = sym c.is_positive.ensures ∙ not-false _ c.if-not-is_positive.false-raw in
+    let heard = sym c.is_positive.ensures ∙ c.if-not-is_positive.false in
     let row = c.row_of-row.ensures.0 ∙ ap (λ (n : ℕ). codes_of a.call a.address a.size (n / 16)) c.byte_at.ensures in
     let said = ap (λ (ks : List ℕ). told_by ks (failed_in (outcome_of [] a.after))) row ∙ if-so (outcome_of [] a.heard) _ heard in
-    rw (not-false a.strict c.if-not-strict.false-raw) (saying said c.put_row.ensures)
+    rw c.if-not-strict.false (saying said c.put_row.ensures)

@@ -1,5 +1,4 @@
 -- `story_checks::put_lenient` meets its contract.
-use mathlib.Core.Bool.{true, false}
 use mathlib.Core.Path.{sym, ◌∙◌, ap}
 use Rattle.telling.specs.Checks.{lenient_line, lenient_text}
 use Rattle.text.proofs.Adding.{both, saying}

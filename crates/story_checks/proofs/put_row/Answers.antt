@@ -1,6 +1,7 @@
 -- `story_checks::put_row` meets its contract: the checks before index i are told.
-use Prim.Native.Nat.{ℕ, ◌-◌}
+use Prim.Native.Nat.{ℕ}
 use native.Mathlib.Omega.{arith}
+use mathlib.Core.List.{[]}
 use mathlib.Core.Path.{◌≡◌, refl, sym, ◌∙◌, ap}
 use lib.Dec.{eqb}
 use Rattle.exchange.specs.Meaning.{outcome_of}

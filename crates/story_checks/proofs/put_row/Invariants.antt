@@ -1,5 +1,6 @@
 -- `story_checks::put_row` meets its contract: the checks before index i are told.
 use Prim.Native.Nat.{◌-◌}
+use mathlib.Core.List.{[]}
 use mathlib.Core.Path.{◌≡◌}
 use lib.ListN.{length}
 use Rattle.exchange.specs.Meaning.{outcome_of}

@@ -1,7 +1,7 @@
 -- `story_checks::row_of` meets its contract.
 use Prim.Native.Nat.{ℕ, ◌+◌, ◌*◌}
 use native.Mathlib.Omega.{arith}
-use mathlib.Core.List.{◌∷◌}
+use mathlib.Core.List.{[], ◌∷◌}
 use mathlib.Core.Path.{ap}
 use Rattle.story_checks.specs.Coded.{codes_of}
 use Rattle.story_checks.proofs.Coding.{reset-short, transfer-short}

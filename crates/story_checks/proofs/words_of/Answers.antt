@@ -1,4 +1,5 @@
 -- `story_checks::words_of` meets its contract.
+use native.Mathlib.Omega.{arith}
 use borrow.Author.Tests.{ne_eqb}
 use Rattle.telling.specs.Checks.{wanted_by}
 use Rattle.story_checks.proofs.words_of.Goals as goal
@@ -53,19 +54,19 @@ returns-in-17 c = rw c.in-17.is
 
 pub returns-in_default : goal.returns-in_default
 unfolding wanted_by
-returns-in_default c = let n = c.in_default.rest in
-    let m = n.0.0.0.0.0.0 in
+returns-in_default c =
+    let n = c.args.number in
     rw (
-      ne_eqb _ 5 m.0.0.0.0.0.1,
-      ne_eqb _ 6 m.0.0.0.0.1,
-      ne_eqb _ 7 m.0.0.0.1,
-      ne_eqb _ 9 m.0.0.1,
-      ne_eqb _ 10 m.0.1,
-      ne_eqb _ 11 m.1,
-      ne_eqb _ 12 n.0.0.0.0.0.1,
-      ne_eqb _ 13 n.0.0.0.0.1,
-      ne_eqb _ 14 n.0.0.0.1,
-      ne_eqb _ 15 n.0.0.1,
-      ne_eqb _ 16 n.0.1,
-      ne_eqb _ 17 n.1,
+      ne_eqb n 5 (omega arith),
+      ne_eqb n 6 (omega arith),
+      ne_eqb n 7 (omega arith),
+      ne_eqb n 9 (omega arith),
+      ne_eqb n 10 (omega arith),
+      ne_eqb n 11 (omega arith),
+      ne_eqb n 12 (omega arith),
+      ne_eqb n 13 (omega arith),
+      ne_eqb n 14 (omega arith),
+      ne_eqb n 15 (omega arith),
+      ne_eqb n 16 (omega arith),
+      ne_eqb n 17 (omega arith),
     )

@@ -1,8 +1,7 @@
 -- `story_exchange::put_exchange` meets its contract.
-use Prim.Native.Nat.{◌-◌, ◌≤◌}
+use Prim.Native.Nat.{◌≤◌}
 use native.Mathlib.Omega.{arith}
 use mathlib.Core.Path.{sym, ◌∙◌}
-use borrow.Author.Tests.{not-true, not-false}
 use Rattle.story_exchange.proofs.Going.{first, no_more, too-late, after_on, ends_it}
 use Rattle.story_exchange.proofs.put_exchange.Goals as goal
 
@@ -18,7 +17,7 @@ loop-i-smaller c = omega arith
 pub loop-i-preserved : goal.loop-i-preserved
 loop-i-preserved c =
     after_on _ _ _ _ _ _ _ c.loop-i.invariant c.event_at-event.ensures c.if-i-count.false (omega arith) c.turn.ensures
-    (sym c.is_read.ensures ∙ not-false _ c.if-not-is_read.false-raw) c.in-On.is c.put_going-n.ensures
+    (sym c.is_read.ensures ∙ c.if-not-is_read.false) c.in-On.is c.put_going-n.ensures
     c.put_going-n.auto.text
 
 pub returns-then-i-count : goal.returns-then-i-count
@@ -28,12 +27,12 @@ returns-then-i-count c =
 pub returns-then-not-is_read : goal.returns-then-not-is_read
 returns-then-not-is_read c =
     too-late _ _ _ _ _ _ _ c.loop-i.invariant c.event_at-event.ensures c.if-i-count.false
-    (sym c.is_read.ensures ∙ not-true _ c.if-not-is_read.true-raw) c.put_silence-end-then-not-is_read.ensures
+    (sym c.is_read.ensures ∙ c.if-not-is_read.true) c.put_silence-end-then-not-is_read.ensures
 
 pub returns-in-Ends : goal.returns-in-Ends
 returns-in-Ends c =
     -- A count fits its type.
     let room : c.event_count-count.result ≤ 18446744073709551615 = omega arith in
     ends_it _ _ _ _ _ _ _ c.loop-i.invariant c.event_at-event.ensures c.if-i-count.false room
-    c.turn.ensures (sym c.is_read.ensures ∙ not-false _ c.if-not-is_read.false-raw) c.in-Ends.is
+    c.turn.ensures (sym c.is_read.ensures ∙ c.if-not-is_read.false) c.in-Ends.is
     c.put_settled-end.ensures

@@ -1,5 +1,4 @@
 -- `story_exchange::put_rest` meets its contract.
-use Prim.Native.Nat.{◌-◌}
 use native.Mathlib.Omega.{arith}
 use Rattle.story_exchange.proofs.Going.{rest-first, rest-next, rest-done}
 use Rattle.story_exchange.proofs.put_rest.Goals as goal

@@ -1,4 +1,5 @@
 -- `story_lines::put_broken` meets its contract.
+use native.Mathlib.Omega.{arith}
 use borrow.Author.Tests.{ne_eqb}
 use Rattle.telling.specs.Words.{breaks}
 use Rattle.text.proofs.Adding.{appends}
@@ -31,6 +32,12 @@ returns-in-8 c = rw c.in-8.is (appends c.append-in-8.ensures)
 pub returns-in_default : goal.returns-in_default
 unfolding breaks
 returns-in_default c =
-    let n = c.in_default.rest in rw
-    (ne_eqb _ 0 n.0.0.0.0.0.1, ne_eqb _ 1 n.0.0.0.0.1, ne_eqb _ 2 n.0.0.0.1, ne_eqb _ 3 n.0.0.1, ne_eqb _ 4 n.0.1, ne_eqb _ 8 n.1)
-    (appends c.append-in_default.ensures)
+    let n = c.args.number in
+    rw (
+      ne_eqb n 0 (omega arith),
+      ne_eqb n 1 (omega arith),
+      ne_eqb n 2 (omega arith),
+      ne_eqb n 3 (omega arith),
+      ne_eqb n 4 (omega arith),
+      ne_eqb n 8 (omega arith),
+    ) (appends c.append-in_default.ensures)

@@ -26,7 +26,7 @@ returns-in-Transport c = rw c.in-Transport.is (appends c.append-in-Transport.ens
 pub returns-in-Fault : goal.returns-in-Fault
 unfolding judged
 returns-in-Fault c =
-    rw (c.in-Fault.is, ← c.number_of_lem.ensures) c.put_broken.ensures
+    rw (c.in-Fault.is, ← c.number_of.ensures) c.put_broken.ensures
 
 pub returns-in-Suppressed : goal.returns-in-Suppressed
 unfolding judged

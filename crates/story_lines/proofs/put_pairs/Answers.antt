@@ -1,5 +1,4 @@
 -- `story_lines::put_pairs` meets its contract: i bytes are written.
-use Prim.Native.Nat.{◌-◌}
 use native.Mathlib.Omega.{arith}
 use lib.Seq.{take_all}
 use Rattle.text.proofs.Adding.{appends, both, nothing, saying}
@@ -17,13 +16,12 @@ pub loop-i-smaller : goal.loop-i-smaller
 loop-i-smaller c = omega arith
 
 pub loop-i-preserved : goal.loop-i-preserved
-loop-i-preserved c =
-    (
-      saying (pairs_next _ _ c.loop-i-test.true) (both (c.loop-i.invariant.0)
-          (appends c.append_byte-n.ensures)),
-      omega arith,
-      c.append_byte-n.auto.0 ∙ c.loop-i.invariant.2,
-    )
+loop-i-preserved c = (
+  saying (pairs_next _ _ c.loop-i-test.true) (both (c.loop-i.invariant.0)
+      (appends c.append_byte-n.ensures)),
+  omega arith,
+  c.append_byte-n.auto.line ∙ c.loop-i.invariant.2,
+)
 
 pub shape_of-text : goal.shape_of-text
 shape_of-text c = c.loop-i.invariant.2

@@ -1,6 +1,6 @@
 -- `sound::put_declined` meets its contract.
 use Prim.Native.Nat.{ℕ}
-use mathlib.Core.List.{List, ◌∷◌}
+use mathlib.Core.List.{List, [], ◌∷◌}
 use mathlib.Core.Path.{◌≡◌, refl}
 use types.Run.{OneOf, miss}
 use denote.Enum.Declared.{tag_of}

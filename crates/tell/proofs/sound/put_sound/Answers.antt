@@ -11,7 +11,7 @@ pub returns-then-is_refused : goal.returns-then-is_refused
 returns-then-is_refused c =
     saying
     (declines c.args.log.now (said c.args.h) (c.requires.1) (c.requires.2)
-    c.address_of-address.ensures c.type_size.ensures
+    c.address_of-address.ensures c.size_of-size.ensures
     c.data_of-data.ensures c.events_of-events.ensures
     c.replies_of-replies.ensures
     c.in_session-answered.ensures (sym c.is_refused.ensures ∙ c.if-is_refused.true))
@@ -27,7 +27,7 @@ overflow_cast-address c =
 pub overflow_cast-size : goal.overflow_cast-size
 overflow_cast-size c =
     let field = ap (λ (x : Header). x.size_length) c.requires.1 in
-    let size = c.type_size.ensures in
+    let size = c.size_of-size.ensures in
     let few = size-narrow (said c.args.h) c.args.log.now size in
     omega (arith, c.shared_slice_known-1.given 8)
 
@@ -35,7 +35,7 @@ pub returns : goal.returns
 returns c =
     saying
     (sounds c.args.log.now (said c.args.h) (c.requires.1) (c.requires.2)
-    c.address_of-address.ensures c.type_size.ensures
+    c.address_of-address.ensures c.size_of-size.ensures
     c.data_of-data.ensures c.events_of-events.ensures
     c.replies_of-replies.ensures
     c.in_session-answered.ensures (sym c.is_refused.ensures ∙ c.if-is_refused.false))
