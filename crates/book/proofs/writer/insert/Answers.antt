@@ -32,7 +32,7 @@ move_on-requires c =
     let started : c.start-logs_at.result ≡ start (length logs) = c.start-logs_at.ensures ∙ ap start counted in
     -- The book is its directory and its logs.
     let long : c.args.n ≡ c.start-logs_at.result + length (joined logs) = book-long c.args.book.now c.args.n c.requires.0 reach ∙ ap (λ (k : ℕ). k + length (joined logs)) (sym started) in
-    omega (arith, long, c.requires.2, c.book-1.given)
+    omega (arith, long, c.requires.2)
 
 pub put_offsets-requires : goal.put_offsets-requires
 put_offsets-requires c =
@@ -42,8 +42,7 @@ put_offsets-requires c =
     let few : c.log_count-count.result ≤ 1489 = omega (arith, counted, few-logs (take c.args.n c.args.book.now) (opened _ c.requires.0)) in
     let started : c.start-logs_at.result ≡ start (length logs) = c.start-logs_at.ensures ∙ ap start counted in
     -- The book is its directory and its logs.
-    let long : c.args.n ≡ c.start-logs_at.result + length (joined logs) = book-long c.args.book.now c.args.n c.requires.0 reach ∙ ap (λ (k : ℕ). k + length (joined logs)) (sym started) in
-    (
+    let long : c.args.n ≡ c.start-logs_at.result + length (joined logs) = book-long c.args.book.now c.args.n c.requires.0 reach ∙ ap (λ (k : ℕ). k + length (joined logs)) (sym started) in (
       few,
       omega (arith, long, c.requires.1),
       omega (
@@ -52,9 +51,6 @@ put_offsets-requires c =
         counted,
         long,
         c.requires.2,
-        c.book-1.given,
-        c.book-2-1.given,
-        c.book-3-1.given,
       ),
     )
 
