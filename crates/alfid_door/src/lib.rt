@@ -1,5 +1,6 @@
 // The door to the `alfid` forms of calls 5, 6, 11 and 12. A module of its own to the compiler, as `step_door` is.
 #![tactic(auto)]
+
 ghost use Rattle.door.specs.Door.{fields};
 ghost use Rattle.host.specs.Served.{InNumbers};
 

@@ -1,5 +1,6 @@
 // The door to the engine that is handed one event at a time: a call is begun. A module of its own to the compiler, as `step_door` is.
 #![tactic(auto)]
+
 ghost use Rattle.std.specs.Prelude.{true};
 ghost use Rattle.door.specs.Door.{fields};
 ghost use Rattle.step_door.specs.Stepping.{BegunInBytes};

@@ -1,5 +1,6 @@
 // From a request line of `udsbench` to the line that it gets.
 #![tactic(auto)]
+
 ghost use Rattle.std.specs.Prelude.{◌≡◌, true, ◌*◌, ◌/◌, ◌%◌, ◌≤◌, ◌<◌, length, take, replicate};
 ghost use Rattle.rules.specs.Bytes.{every};
 ghost use Rattle.rules.specs.Lines.{digit, hex};

@@ -1,5 +1,6 @@
 // Request Thirteen, "A book of logs with a summary": a book in lent bytes, and its summary in lent counters. What they are, is said in `bookkeeping`.
 #![tactic(auto)]
+
 ghost use Rattle.std.specs.Prelude.{◌≡◌, length, take};
 ghost use Rattle.bookkeeping.specs.Book.{is_book, of_call};
 ghost use Rattle.bookkeeping.specs.Layout.{logs_in};

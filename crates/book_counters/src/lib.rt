@@ -1,5 +1,6 @@
 // The counter of a log in the summary of a book: a log is run alone, and its answer says which counter is raised.
 #![tactic(auto)]
+
 ghost use Rattle.std.specs.Prelude.{◌≡◌, cond, ◌<◌};
 ghost use Rattle.rules.specs.Logs.{layout_ok};
 ghost use Rattle.bookkeeping.specs.Summary.{raised, raised_at, slot};

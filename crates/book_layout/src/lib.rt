@@ -1,5 +1,6 @@
 // A book as it is read: its header, its directory and where its logs stand.
 #![tactic(auto)]
+
 ghost use Rattle.std.specs.Prelude.{◌≡◌, ◌≤◌, drop};
 ghost use Rattle.rules.specs.Bytes.{u16_at};
 ghost use Rattle.rules.specs.Logs.{layout_ok};

@@ -1,5 +1,6 @@
 // The text that `udsbook` writes: the lines of a summary, "added CALL K", "refused N", and how it is used.
 #![tactic(auto)]
+
 ghost use Rattle.std.specs.Prelude.{◌+◌, ◌*◌, ◌≤◌, ◌<◌, [], ◌∷◌, ◌++◌, ◌&&◌, ◌≡◌, leb, length, get_or};
 ghost use Rattle.rules.specs.Lines.{ascii, decimal, hex, spaced, digit};
 ghost use Rattle.text.specs.Written.{Put};

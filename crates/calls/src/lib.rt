@@ -1,5 +1,6 @@
 // A whole call, by value: the core that all named functions share.
 #![tactic(auto)]
+
 ghost use Rattle.std.specs.Prelude.{cond, [], ◌≡◌};
 ghost use Rattle.exchange.specs.Meaning.{outcome_of};
 ghost use Rattle.rules.specs.Calls.{alfid};

@@ -1,5 +1,6 @@
 // Document 01's checks after a positive reply, in their order; the data handed out, the number of calls 11 and 12, and the session timing of call 1.
 #![tactic(auto)]
+
 ghost use Rattle.std.specs.Prelude.{◌<◌, [], ◌≡◌};
 ghost use Rattle.rules.specs.After.{timing_of, number_of};
 ghost use Rattle.rules.specs.Answers.{if_positive};

@@ -1,5 +1,6 @@
 // Document 02, request Four: the number of a negative code's name, read from a table of 256 entries. What it is, is `name_number` of `rules`.
 #![tactic(auto)]
+
 ghost use Rattle.std.specs.Prelude.{◌≡◌};
 ghost use Rattle.rules.specs.Codes.{name_number};
 

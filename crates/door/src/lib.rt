@@ -1,5 +1,6 @@
 // What the door's numbers ask: the fields of a log's header with a limit of notices, for a whole call and for one event at a time.
 #![tactic(auto)]
+
 ghost use Rattle.std.specs.Prelude.{◌≡◌};
 ghost use Rattle.logs.specs.Layout.{said};
 ghost use Rattle.door.specs.Door.{version_of, fields, is_limit, fits, limit_for, limited_to, has_alfid};

@@ -1,5 +1,6 @@
 // The exchange over a lent event list: "The exchange reads until one event settles it".
 #![tactic(auto)]
+
 ghost use Rattle.std.specs.Prelude.{◌≡◌, Bool, []};
 ghost use Rattle.rules.specs.Events.{within_limits};
 ghost use Rattle.rules.specs.Exchange as rules;

@@ -1,6 +1,7 @@
 // Document 02, request One: the selector over records of three fault-code bytes and one status byte, as call 15 hands them out behind the
 // availability mask. It refuses nothing; a broken tail is no record. What it selects, is `select` of `rules`.
 #![tactic(auto)]
+
 ghost use Rattle.std.specs.Prelude.{◌≤◌, ◌≡◌, Bool, cond, length};
 ghost use Rattle.rules.specs.Faults.{shares, select};
 ghost use Rattle.faults.specs.Found.{found_of};

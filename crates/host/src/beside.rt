@@ -16,12 +16,7 @@ pub fn bintrochis_version() -> u32
 }
 
 // Block k of `data` under the block length that call 11 returned: 0, and its counter, where it begins and how long it is; or refusal 11 or 12, and nothing is touched.
-pub fn bintrochis_door_block(
-    data: &[u8],
-    block_length: u64,
-    k: u64,
-    block: &mut [u64; 3],
-) -> u8
+pub fn bintrochis_door_block(data: &[u8], block_length: u64, k: u64, block: &mut [u64; 3]) -> u8
     ensures { Blocked «data».now block_length k block.old result block.new }
 {
     match blocks::counter(data, block_length, k) {

@@ -2,6 +2,7 @@
 // own, `alfid_door`, `line_door`, `begin_door`, `begin_alfid_door`, `step_door` and `tick_door`; include/bintrochis.h says all of them to C,
 // and the crates `host_c`, `alfid_door_c` and so on export them.
 #![tactic(auto)]
+
 ghost use Rattle.std.specs.Prelude.{◌≡◌};
 ghost use Rattle.rules.specs.Codes.{name_number};
 ghost use Rattle.door.specs.Door.{fields};

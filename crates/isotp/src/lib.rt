@@ -1,5 +1,6 @@
 // `isotp` joins the frames of one identifier into messages, by ISO 15765-2.
 #![tactic(auto)]
+
 ghost use Rattle.std.specs.Prelude.{◌≡◌, ◌+◌, ◌≤◌, ◌<◌, min, length, false};
 ghost use Rattle.isotp.specs.Joining.{idle, singles, firsts, goes_on, feed};
 ghost use Rattle.isotp.specs.declared.Gives.TheVariants.{Nothing};

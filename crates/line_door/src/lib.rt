@@ -1,5 +1,6 @@
 // The door from a log to its line: a module of its own to the compiler, as `step_door` is.
 #![tactic(auto)]
+
 ghost use Rattle.line_door.specs.Lined.{Lined};
 
 use text::Written;

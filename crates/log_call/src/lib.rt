@@ -1,5 +1,6 @@
 // The call that a log asks: what the fields of its header say, and how it is made.
 #![tactic(auto)]
+
 ghost use Rattle.std.specs.Prelude.{true, cond, List, ◌≡◌, ℕ, ◌/◌, ◌%◌, ◌<◌, eqb};
 ghost use Rattle.rules.specs.Calls.{Field};
 ghost use Rattle.rules.specs.Logs as rules;

@@ -1,5 +1,6 @@
 // From a log to its answer, and from there to its line.
 #![tactic(auto)]
+
 ghost use Rattle.rules.specs.Logs.{line_of};
 ghost use Rattle.text.specs.Written.{Wrote};
 ghost use Rattle.log_line.specs.Answered.{AnsweredIn};

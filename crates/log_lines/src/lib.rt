@@ -1,6 +1,7 @@
 // The lines of a file of logs, as it is read in parts: what has come is taken up to the last log that is whole, and its lines are written. Beside
 // them stands what is to be said of the file: a length that no log has, and a log that the file ends in.
 #![tactic(auto)]
+
 ghost use Rattle.std.specs.Prelude.{◌+◌, ◌≤◌, ◌<◌, ◌≡◌, length};
 ghost use Rattle.rules.specs.Logs.{line_of};
 ghost use Rattle.text.specs.Written.{Put};

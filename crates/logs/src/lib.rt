@@ -1,5 +1,6 @@
 // The log of document 01, "The log and `udslog`".
 #![tactic(auto)]
+
 pub mod header;
 pub mod layout;
 pub mod reader;

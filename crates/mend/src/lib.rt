@@ -1,5 +1,6 @@
 // Request Ten, "Mend a damaged log": the mended log is written into a lent buffer. What it is, is `mend` of `mending`.
 #![tactic(auto)]
+
 ghost use Rattle.std.specs.Prelude.{◌+◌, ◌*◌, ◌≤◌, ◌++◌, ◌≡◌, length, take};
 ghost use Rattle.rules.specs.Events.{event_size, entries};
 ghost use Rattle.rules.specs.Logs.{header_size, form_in};

@@ -14,10 +14,8 @@ use Rattle.calls.specs.declared.Answered.{Answered}
 use Rattle.numbers.specs.Numbers.{values_of, plain, Tells}
 use Rattle.exchange.specs.declared.error.ProtocolDeviation.{ProtocolDeviation}
 use Rattle.exchange.specs.declared.error.ProtocolDeviation.TheVariants as protocol
-use Rattle.exchange.specs.contracts.error.ProtocolDeviation.{the_type}
+use Rattle.exchange.specs.declared.error.Maximum.{Maximum}
 use Rattle.rules.specs.Answers.{fault}
-use types.Run.{OneOf, miss}
-use denote.Enum.Declared.{tag_of}
 
 pub long : (replies : List ℕ) (p : Place) → Inside replies p → length (part_of replies p).bytes ≡ p.len
 long replies p h = simp (length-take, length-drop) (omega arith)
@@ -27,7 +25,7 @@ pub placed : (replies : List ℕ) (o : Outcome) {p : Place} → o ≡ PositiveRe
 placed replies o {p} e h = rw (e, long replies p (rw e at h))
 
 -- Every deviation but 8 has its number alone.
-pub alone : (d : ProtocolDeviation) → OneOf (0 ∷ 1 ∷ 2 ∷ 3 ∷ 4 ∷ 5 ∷ 6 ∷ 8 ∷ 9 ∷ 10 ∷ 11 ∷ 12 ∷ 13 ∷ 14 ∷ []) (tag_of the_type d)
+pub alone : (d : ProtocolDeviation) → ((least : ℕ) (most : Maximum) → d ≡ protocol.InvalidResponseLength least most → ⊥)
     → plain 6 (deviation_number d) ≡ values_of (fault (deviation_of d))
 alone protocol.InvalidServiceId h = refl
 alone protocol.InvalidRequestServiceId h = refl
@@ -36,7 +34,7 @@ alone protocol.UnexpectedPositiveResponse h = refl
 alone protocol.InvalidDataIdentifier h = refl
 alone protocol.InvalidRoutineIdentifier h = refl
 alone protocol.InvalidBlockSequenceCounter h = refl
-alone (protocol.InvalidResponseLength least most) h = absurd (miss (0 ∷ 1 ∷ 2 ∷ 3 ∷ 4 ∷ 5 ∷ 6 ∷ 8 ∷ 9 ∷ 10 ∷ 11 ∷ 12 ∷ 13 ∷ 14 ∷ []) 7 _ h)
+alone (protocol.InvalidResponseLength least most) h = absurd (h least most refl)
 alone protocol.InvalidLengthFormat h = refl
 alone protocol.InvalidLengthFormatIdentifier h = refl
 alone protocol.InvalidMaxNumberOfBlockLength h = refl

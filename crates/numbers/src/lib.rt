@@ -1,5 +1,6 @@
 // An answer as fifteen numbers, which C and Rust can read.
 #![tactic(auto)]
+
 ghost use Rattle.std.specs.Prelude.{List, ◌≡◌, ℕ};
 ghost use Rattle.rules.specs.Answers.{fault};
 ghost use Rattle.exchange.specs.Meaning.{outcome_of, deviation_of, maximum_of};

@@ -1,5 +1,6 @@
 // Of a bad log the first field that is off, and what it should be, as a line that is added to a text.
 #![tactic(auto)]
+
 ghost use Rattle.std.specs.Prelude.{false, [], ◌++◌, map, ◌≡◌, ◌+◌, ◌-◌, ◌*◌, ◌≤◌, ◌<◌, min, get_or, length};
 ghost use Rattle.std.proofs.Math.Option.{some};
 ghost use Rattle.rules.specs.Events.{event_size, entries};

@@ -1,5 +1,6 @@
 // The sixteen calls, their requests into a lent buffer, and refusals 1 to 9.
 #![tactic(auto)]
+
 ghost use Rattle.std.specs.Prelude.{◌+◌, ◌≤◌, cond, [], ◌++◌, ◌≡◌, length};
 ghost use Rattle.requests.specs.Meaning.{data_bytes};
 ghost use Rattle.requests.specs.Parameters.{bit7, opening_of, head_of};

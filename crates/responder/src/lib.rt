@@ -1,6 +1,7 @@
 // Document 02, request Five: the server end. "it takes a request and a small store .. and writes a reply, or stays silent under suppression."
 // First it decides, and looks only; then it says the reply; and what was asked to be written is written last, where the reply has room.
 #![tactic(auto)]
+
 ghost use Rattle.std.specs.Prelude.{◌≡◌, ◌++◌, ◌<◌, get_or};
 ghost use Rattle.bench.specs.Stores.{store_of, counted};
 ghost use Rattle.rules.specs.Refusals.{between};

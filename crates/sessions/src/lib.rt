@@ -1,5 +1,6 @@
 // The session record that the host lends: a whole call over it, and calls in a session that is kept by value.
 #![tactic(auto)]
+
 ghost use Rattle.std.specs.Prelude.{◌≡◌};
 ghost use Rattle.requests.specs.Meaning.{call_of};
 ghost use Rattle.calls.specs.Meaning.{setting_of, lent_of, Called};

@@ -1,6 +1,7 @@
 // The state of the engine that is handed one event at a time, as twenty-eight numbers that a host keeps.
 // The first fifteen are an answer's. While the engine waits, 11 stands for the outcome, and the deadline, the events read and the notices stand where the answer's time and counts will.
 #![tactic(auto)]
+
 ghost use Rattle.std.specs.Prelude.{◌≡◌, ◌%◌};
 ghost use Rattle.state_numbers.specs.Kept.{is_set, bit, AskedIn, asking_in, engine_in, Told};
 

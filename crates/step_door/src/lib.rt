@@ -1,6 +1,7 @@
 // The door to the engine that is handed one event at a time, once it is begun: its state is twenty-eight numbers that the host keeps. A crate of the door is a module
 // of its own to the compiler, which then puts all that a function calls into it, with no frame of the stack for what other doors call too.
 #![tactic(auto)]
+
 ghost use Rattle.step_door.specs.Stepping.{entry, Handed};
 
 use exchange::types::Event;

@@ -1,5 +1,6 @@
 // Request Eleven: "a second engine with a state record: begin, one event, or a tick". It takes the list engine's own turns, one event at a time.
 #![tactic(auto)]
+
 ghost use Rattle.std.specs.Prelude.{◌≡◌};
 ghost use Rattle.exchange.specs.Meaning.{entry_of, overall_of};
 ghost use Rattle.steps.specs.Stepping.{asked_in, past_of, refusing, going_on, late_of, Settles, tick_of, Turned, HandsIn, Hands, begun_by, Begins};

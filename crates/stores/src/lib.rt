@@ -1,5 +1,6 @@
 // The store of the bench responder, read out of its one area of bytes. Any bytes can be read; `sound` says whether they are a store.
 #![tactic(auto)]
+
 ghost use Rattle.std.specs.Prelude.{◌≡◌, ◌+◌, ◌-◌, ◌*◌, ◌<◌};
 ghost use Rattle.rules.specs.Bytes.{value, every};
 ghost use Rattle.bench.specs.Stores.{store_of, slot_of, known, store_ok};

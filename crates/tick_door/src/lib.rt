@@ -1,5 +1,6 @@
 // The door to the engine that is handed one event at a time, once it is begun: the time is told. A module of its own to the compiler, as `step_door` is.
 #![tactic(auto)]
+
 ghost use Rattle.step_door.specs.Stepping.{Ticked};
 
 use log_call::Fields;

@@ -1,6 +1,7 @@
 // Unified Diagnostic Services (UDS) client, implements ISO 14229. Every call takes, behind its arguments, the lent request buffer, the events (ten bytes
 // each, or twelve with addresses) and the reply bytes. Above each is its row of document 01's table: request -> strict positive -> data handed out; s is the sub-function with bit 7 cleared.
 #![tactic(auto)]
+
 ghost use Rattle.std.specs.Prelude.{Bool, [], ◌≡◌};
 ghost use Rattle.rules.specs.Calls as rules;
 ghost use Rattle.rules.specs.Calls.{session, reset, security, tester_present, read_memory, write_memory, read_identifier, write_identifier, fault_count, fault_list, routine, download, upload, transfer, transfer_exit, alfid};

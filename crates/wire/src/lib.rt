@@ -1,5 +1,6 @@
 // Bytes and numbers, high byte first: reads, copies into a lent buffer, and the two nibble types of a download.
 #![tactic(auto)]
+
 ghost use Rattle.std.specs.Prelude.{◌≡◌, ◌<◌, get_or, take, drop};
 ghost use Rattle.rules.specs.Bytes.{u16_at, u32_at};
 ghost use Rattle.rules.specs.Refusals.{widest};

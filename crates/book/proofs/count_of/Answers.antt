@@ -71,14 +71,14 @@ loop-i-preserved c =
       omega arith,
       omega (arith, l.invariant.1, short),
       elim c.if-call_in-call.branch [
-        then-call_in-call w ↦ omega (arith, w.seen-is, l.invariant.2)
-      | else-call_in-call w ↦ omega (arith, w.seen-is, l.invariant.2)
+        | then-call_in-call w ↦ omega (arith, w.seen-is, l.invariant.2)
+        | else-call_in-call w ↦ omega (arith, w.seen-is, l.invariant.2)
       ],
       elim c.if-call_in-call.branch [
-        then-call_in-call w ↦
-        omega (arith, w.seen-is, l.invariant.3, one-of-call b n l.i l.at more log is call (sym c.call_in.ensures ∙ w.if-call_in-call.true))
-      | else-call_in-call w ↦
-        omega (arith, w.seen-is, l.invariant.3, none-of-call b n l.i l.at more log is call (λ e. w.if-call_in-call.false (c.call_in.ensures ∙ e)))
+        | then-call_in-call w ↦
+            omega (arith, w.seen-is, l.invariant.3, one-of-call b n l.i l.at more log is call (sym c.call_in.ensures ∙ w.if-call_in-call.true))
+        | else-call_in-call w ↦
+            omega (arith, w.seen-is, l.invariant.3, none-of-call b n l.i l.at more log is call (λ e. w.if-call_in-call.false (c.call_in.ensures ∙ e)))
       ],
     )
 

@@ -97,10 +97,10 @@ loop-i-preserved c =
     (l.at + length log) rest ≡ stands_at x.call x.k (start (u16_at b 4)) (logs_in b)) in
     let on : Goal c.if-call_in-call.left =
     elim c.if-call_in-call.branch [
-      then-call_in-call w ↦ subst⁻¹ Goal w.left-is (counted-off b n l.i l.at more log is x.call l.left l.invariant.2 l.invariant.3
-      (sym c.call_in.ensures ∙ w.if-call_in-call.true) (omega (arith, w.if-left-eq0.false)))
-    | else-call_in-call w ↦ subst⁻¹ Goal w.left-is (passed-by b n l.i l.at more log is x.call l.left l.invariant.2 l.invariant.3
-      (λ e. w.if-call_in-call.false (c.call_in.ensures ∙ e)))
+      | then-call_in-call w ↦ subst⁻¹ Goal w.left-is (counted-off b n l.i l.at more log is x.call l.left l.invariant.2 l.invariant.3
+          (sym c.call_in.ensures ∙ w.if-call_in-call.true) (omega (arith, w.if-left-eq0.false)))
+      | else-call_in-call w ↦ subst⁻¹ Goal w.left-is (passed-by b n l.i l.at more log is x.call l.left l.invariant.2 l.invariant.3
+          (λ e. w.if-call_in-call.false (c.call_in.ensures ∙ e)))
     ]
     in
     (omega arith, omega (arith, l.invariant.1, short), on.0, on.1)

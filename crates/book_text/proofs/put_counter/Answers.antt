@@ -26,16 +26,15 @@ returns-then-slot-eq0 c =
     )
 
 pub put_row-requires-then-slot-le256 : goal.put_row-requires-then-slot-le256
-put_row-requires-then-slot-le256 c =
-    (
-      omega (arith, c.requires.0 (omega (arith, c.if-number-eq0.false))),
-      omega (
-        arith,
-        c.requires.1,
-        ap (λ (w : List ℕ). length w)
-            c.negative-word.ensures,
-      ),
-    )
+put_row-requires-then-slot-le256 c = (
+  omega (arith, c.requires.0 (omega (arith, c.if-number-eq0.false))),
+  omega (
+    arith,
+    c.requires.1,
+    ap (λ (w : List ℕ). length w)
+        c.negative-word.ensures,
+  ),
+)
 
 pub returns-then-slot-le256 : goal.returns-then-slot-le256
 returns-then-slot-le256 c =

@@ -25,12 +25,11 @@ pub bounds-summary-i : goal.bounds-summary-i
 bounds-summary-i c = omega arith
 
 pub put_counter-n-requires : goal.put_counter-n-requires
-put_counter-n-requires c =
-    (
-      λ _. omega (arith, c.if-summary-gt-COUNTERS.false, c.loop-i-test.true),
-      omega
-          (arith, c.loop-i.invariant.1, c.loop-i.invariant.2, c.if-summary-gt-COUNTERS.false, c.if-text-lt-LONGEST.false, c.loop-i-test.true),
-    )
+put_counter-n-requires c = (
+  λ _. omega (arith, c.if-summary-gt-COUNTERS.false, c.loop-i-test.true),
+  omega
+      (arith, c.loop-i.invariant.1, c.loop-i.invariant.2, c.if-summary-gt-COUNTERS.false, c.if-text-lt-LONGEST.false, c.loop-i-test.true),
+)
 
 pub overflow_add-i : goal.overflow_add-i
 overflow_add-i c = omega arith

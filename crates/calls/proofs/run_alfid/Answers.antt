@@ -9,17 +9,17 @@ use Rattle.calls.proofs.run_alfid.Goals as goal
 pub returns-then-number-ne0 : goal.returns-then-number-ne0
 returns-then-number-ne0 c =
     let given : Given = let x = c.args in
-        record {
-          session = x.session;
-          ask = x.ask;
-          v = x.address;
-          u = x.size;
-          w = x.address_width;
-          w' = x.size_width;
-          wide = x.wide;
-          d = x.«data».now;
-          lent = lent_of x.ask.channel x.request.now x.events.now x.replies.now;
-        } in
+    record {
+      session = x.session;
+      ask = x.ask;
+      v = x.address;
+      u = x.size;
+      w = x.address_width;
+      w' = x.size_width;
+      wide = x.wide;
+      d = x.«data».now;
+      lent = lent_of x.ask.channel x.request.now x.events.now x.replies.now;
+    } in
     -- What was given, seen from behind the question whether the call takes address and size; and the answer.
     let behind : Given = given in
     let answered : c.takes_memory-takes.result ≡ takes_memory (row_of behind.ask.call).takes = c.takes_memory-takes.ensures ∙ ap (λ (r : Row). takes_memory r.takes) c.row_of-row.ensures in
@@ -28,17 +28,17 @@ returns-then-number-ne0 c =
 pub returns-then-number-ne0-2 : goal.returns-then-number-ne0-2
 returns-then-number-ne0-2 c =
     let given : Given = let x = c.args in
-        record {
-          session = x.session;
-          ask = x.ask;
-          v = x.address;
-          u = x.size;
-          w = x.address_width;
-          w' = x.size_width;
-          wide = x.wide;
-          d = x.«data».now;
-          lent = lent_of x.ask.channel x.request.now x.events.now x.replies.now;
-        } in
+    record {
+      session = x.session;
+      ask = x.ask;
+      v = x.address;
+      u = x.size;
+      w = x.address_width;
+      w' = x.size_width;
+      wide = x.wide;
+      d = x.«data».now;
+      lent = lent_of x.ask.channel x.request.now x.events.now x.replies.now;
+    } in
     -- What was given, seen from behind the question whether the call takes address and size; and the answer.
     let behind : Given = given in
     let answered : c.takes_memory-takes.result ≡ takes_memory (row_of behind.ask.call).takes = c.takes_memory-takes.ensures ∙ ap (λ (r : Row). takes_memory r.takes) c.row_of-row.ensures in
@@ -49,17 +49,17 @@ returns-then-number-ne0-2 c =
 pub returns : goal.returns
 returns c =
     let given : Given = let x = c.args in
-        record {
-          session = x.session;
-          ask = x.ask;
-          v = x.address;
-          u = x.size;
-          w = x.address_width;
-          w' = x.size_width;
-          wide = x.wide;
-          d = x.«data».now;
-          lent = lent_of x.ask.channel x.request.now x.events.now x.replies.now;
-        } in
+    record {
+      session = x.session;
+      ask = x.ask;
+      v = x.address;
+      u = x.size;
+      w = x.address_width;
+      w' = x.size_width;
+      wide = x.wide;
+      d = x.«data».now;
+      lent = lent_of x.ask.channel x.request.now x.events.now x.replies.now;
+    } in
     -- What was given, seen from behind the question whether the call takes address and size; and the answer.
     let behind : Given = given in
     let answered : c.takes_memory-takes.result ≡ takes_memory (row_of behind.ask.call).takes = c.takes_memory-takes.ensures ∙ ap (λ (r : Row). takes_memory r.takes) c.row_of-row.ensures in

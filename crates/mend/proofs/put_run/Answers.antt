@@ -16,7 +16,7 @@ pub returns-then-not-copy_into : goal.returns-then-not-copy_into
 returns-then-not-copy_into c =
     -- What is left of the reply area went behind the events, or had no room there.
     let replies : (b : Bool) → c.copy_into.result ≡ b → let x = c.args in Copied x.out.now (x.new.events_at + length (kept_bytes (said x.old) x.log.now)) (left_in (said x.old) x.log.now) b c.copy_into.new.buffer = λ b told. let x = c.args in
-        rw (told, c.left_in.ensures, behind-events x.new (said x.old) x.log.now c.requires) at c.copy_into.ensures in
+    rw (told, c.left_in.ensures, behind-events x.new (said x.old) x.log.now c.requires) at c.copy_into.ensures in
     let x = c.args in
     neither x.out.now x.new.events_at (kept_bytes (said x.old) x.log.now) (left_in (said x.old) x.log.now)
     (replies false (not-true _ c.if-not-copy_into.true-raw))
@@ -31,7 +31,7 @@ pub returns : goal.returns
 returns c =
     -- What is left of the reply area went behind the events, or had no room there.
     let replies : (b : Bool) → c.copy_into.result ≡ b → let x = c.args in Copied x.out.now (x.new.events_at + length (kept_bytes (said x.old) x.log.now)) (left_in (said x.old) x.log.now) b c.copy_into.new.buffer = λ b told. let x = c.args in
-        rw (told, c.left_in.ensures, behind-events x.new (said x.old) x.log.now c.requires) at c.copy_into.ensures in
+    rw (told, c.left_in.ensures, behind-events x.new (said x.old) x.log.now c.requires) at c.copy_into.ensures in
     let x = c.args in
     let old = said x.old in
     let l = x.log.now in

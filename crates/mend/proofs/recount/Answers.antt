@@ -37,9 +37,9 @@ overflow_add-header_size c =
     -- The sums are small: of 65,535 events and reply bytes at most.
     let sized : let x = c.args in (c.event_size-size.result ≡ event_size (form_in (said x.h))) × (c.header_size.result ≡ header_size (form_in (said x.h))) = (rw (← c.form_in.ensures) c.event_size-size.ensures, c.header_size.ensures) in
     let small : let x = c.args in c.header_size.result + x.h.arguments + x.events * c.event_size-size.result + x.replies ≤ 1000000 = let x = c.args in
-        let s = sized in
-        let few = few_bytes (form_in (said x.h)) x.events in
-        rw (s.0, s.1) (omega (arith, c.struct_known-1.given, moved-little (form_in (said x.h)), few)) in
+    let s = sized in
+    let few = few_bytes (form_in (said x.h)) x.events in
+    rw (s.0, s.1) (omega (arith, c.struct_known-1.given, moved-little (form_in (said x.h)), few)) in
     omega (arith, small)
 
 pub overflow_mul-events : goal.overflow_mul-events
@@ -47,9 +47,9 @@ overflow_mul-events c =
     -- The sums are small: of 65,535 events and reply bytes at most.
     let sized : let x = c.args in (c.event_size-size.result ≡ event_size (form_in (said x.h))) × (c.header_size.result ≡ header_size (form_in (said x.h))) = (rw (← c.form_in.ensures) c.event_size-size.ensures, c.header_size.ensures) in
     let small : let x = c.args in c.header_size.result + x.h.arguments + x.events * c.event_size-size.result + x.replies ≤ 1000000 = let x = c.args in
-        let s = sized in
-        let few = few_bytes (form_in (said x.h)) x.events in
-        rw (s.0, s.1) (omega (arith, c.struct_known-1.given, moved-little (form_in (said x.h)), few)) in
+    let s = sized in
+    let few = few_bytes (form_in (said x.h)) x.events in
+    rw (s.0, s.1) (omega (arith, c.struct_known-1.given, moved-little (form_in (said x.h)), few)) in
     omega (arith, small)
 
 pub overflow_add-header_size-2 : goal.overflow_add-header_size-2
@@ -57,9 +57,9 @@ overflow_add-header_size-2 c =
     -- The sums are small: of 65,535 events and reply bytes at most.
     let sized : let x = c.args in (c.event_size-size.result ≡ event_size (form_in (said x.h))) × (c.header_size.result ≡ header_size (form_in (said x.h))) = (rw (← c.form_in.ensures) c.event_size-size.ensures, c.header_size.ensures) in
     let small : let x = c.args in c.header_size.result + x.h.arguments + x.events * c.event_size-size.result + x.replies ≤ 1000000 = let x = c.args in
-        let s = sized in
-        let few = few_bytes (form_in (said x.h)) x.events in
-        rw (s.0, s.1) (omega (arith, c.struct_known-1.given, moved-little (form_in (said x.h)), few)) in
+    let s = sized in
+    let few = few_bytes (form_in (said x.h)) x.events in
+    rw (s.0, s.1) (omega (arith, c.struct_known-1.given, moved-little (form_in (said x.h)), few)) in
     omega (arith, small)
 
 pub overflow_add-header_size-3 : goal.overflow_add-header_size-3
@@ -67,9 +67,9 @@ overflow_add-header_size-3 c =
     -- The sums are small: of 65,535 events and reply bytes at most.
     let sized : let x = c.args in (c.event_size-size.result ≡ event_size (form_in (said x.h))) × (c.header_size.result ≡ header_size (form_in (said x.h))) = (rw (← c.form_in.ensures) c.event_size-size.ensures, c.header_size.ensures) in
     let small : let x = c.args in c.header_size.result + x.h.arguments + x.events * c.event_size-size.result + x.replies ≤ 1000000 = let x = c.args in
-        let s = sized in
-        let few = few_bytes (form_in (said x.h)) x.events in
-        rw (s.0, s.1) (omega (arith, c.struct_known-1.given, moved-little (form_in (said x.h)), few)) in
+    let s = sized in
+    let few = few_bytes (form_in (said x.h)) x.events in
+    rw (s.0, s.1) (omega (arith, c.struct_known-1.given, moved-little (form_in (said x.h)), few)) in
     omega (arith, small)
 
 pub returns-then-header_size-arguments-gt-MOST_READ : goal.returns-then-header_size-arguments-gt-MOST_READ

@@ -8,4 +8,4 @@ pub returns-in-InvalidResponseLength : goal.returns-in-InvalidResponseLength
 returns-in-InvalidResponseLength c = rw (c.in-InvalidResponseLength.is, c.upper.ensures)
 
 pub returns-in_default : goal.returns-in_default
-returns-in_default c = c.plain.ensures ∙ ap (plain 6) c.deviation_number.ensures ∙ alone c.args.deviation c.in_default.keys2
+returns-in_default c = c.plain.ensures ∙ ap (plain 6) c.deviation_number.ensures ∙ alone c.args.deviation c.in_default.not-InvalidResponseLength

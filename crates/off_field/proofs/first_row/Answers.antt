@@ -29,12 +29,11 @@ pub loop-i-smaller : goal.loop-i-smaller
 loop-i-smaller c = omega arith
 
 pub loop-i-preserved : goal.loop-i-preserved
-loop-i-preserved c =
-    (
-      omega arith,
-      sym (between (fs c.args.h c.args.n) c.loop-i.i c.row-f.result (omega arith)
-          c.row-f.ensures c.if-f.false c.if-f-2.false) ∙ c.loop-i.invariant.1,
-    )
+loop-i-preserved c = (
+  omega arith,
+  sym (between (fs c.args.h c.args.n) c.loop-i.i c.row-f.result (omega arith)
+      c.row-f.ensures c.if-f.false c.if-f-2.false) ∙ c.loop-i.invariant.1,
+)
 
 pub returns : goal.returns
 returns c =

@@ -43,17 +43,16 @@ overflow_add-i c =
     )
 
 pub put_event-requires : goal.put_event-requires
-put_event-requires c =
-    (
-      omega (
-        arith,
-        c.requires,
-        starts (form_of c.args.form) c.loop-i.i c.event_size-size.ensures
-            c.event_count-n.ensures c.loop-i-test.true,
-      ),
-      sym c.event_ok.ensures ∙ not-true _
-          c.if-not-event_ok.true-raw,
-    )
+put_event-requires c = (
+  omega (
+    arith,
+    c.requires,
+    starts (form_of c.args.form) c.loop-i.i c.event_size-size.ensures
+        c.event_count-n.ensures c.loop-i-test.true,
+  ),
+  sym c.event_ok.ensures ∙ not-true _
+      c.if-not-event_ok.true-raw,
+)
 
 pub shape_of-text-then-not-event_ok : goal.shape_of-text-then-not-event_ok
 shape_of-text-then-not-event_ok c =
@@ -73,14 +72,13 @@ pub loop-i-smaller : goal.loop-i-smaller
 loop-i-smaller c = omega arith
 
 pub loop-i-preserved : goal.loop-i-preserved
-loop-i-preserved c =
-    (
-      omega arith,
-      c.loop-i.invariant.1,
-      sound-event (form_of c.args.form) c.args.from c.args.events.now
-          c.loop-i.i c.event_count-n.result c.loop-i-test.true (sym (ap event_ok
-          c.event_at-event.ensures) ∙ sym c.event_ok.ensures ∙ not-false _ c.if-not-event_ok.false-raw) ∙ c.loop-i.invariant.2,
-    )
+loop-i-preserved c = (
+  omega arith,
+  c.loop-i.invariant.1,
+  sound-event (form_of c.args.form) c.args.from c.args.events.now
+      c.loop-i.i c.event_count-n.result c.loop-i-test.true (sym (ap event_ok
+      c.event_at-event.ensures) ∙ sym c.event_ok.ensures ∙ not-false _ c.if-not-event_ok.false-raw) ∙ c.loop-i.invariant.2,
+)
 
 pub shape_of-text : goal.shape_of-text
 shape_of-text c = ap length c.loop-i.invariant.1

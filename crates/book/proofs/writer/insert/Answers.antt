@@ -42,8 +42,7 @@ put_offsets-requires c =
     let few : c.log_count-count.result ≤ 1489 = omega (arith, counted, few-logs (take c.args.n c.args.book.now) (opened _ c.requires.0)) in
     let started : c.start-logs_at.result ≡ start (length logs) = c.start-logs_at.ensures ∙ ap start counted in
     -- The book is its directory and its logs.
-    let long : c.args.n ≡ c.start-logs_at.result + length (joined logs) = book-long c.args.book.now c.args.n c.requires.0 reach ∙ ap (λ (k : ℕ). k + length (joined logs)) (sym started) in
-    (
+    let long : c.args.n ≡ c.start-logs_at.result + length (joined logs) = book-long c.args.book.now c.args.n c.requires.0 reach ∙ ap (λ (k : ℕ). k + length (joined logs)) (sym started) in (
       few,
       omega (arith, long, c.requires.1),
       omega (

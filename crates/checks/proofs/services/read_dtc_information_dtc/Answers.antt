@@ -17,8 +17,8 @@ pub returns-then-reply-lt3 : goal.returns-then-reply-lt3
 returns-then-reply-lt3 c =
     -- The records are whole wherever it counts.
     let whole : let x = c.args in in_strict x.strict (eqb (length x.reply.now % 4) 3) ≡ true = elim c.else-strict.branch [
-      else-strict-via-then-strict+else-reply-ne3 w ↦ rw (eq-eqb _ _ w.if-reply-ne3.false) (right-passes _)
-    | else-strict-via-else-strict w ↦ lenient-passes _ _ w.if-strict.false
+      | else-strict-via-then-strict+else-reply-ne3 w ↦ rw (eq-eqb _ _ w.if-reply-ne3.false) (right-passes _)
+      | else-strict-via-else-strict w ↦ lenient-passes _ _ w.if-strict.false
     ] in
     rw (whole, lt-leb _ _ c.if-reply-lt3.true, c.length_error-then-reply-lt3.ensures)
 
@@ -26,7 +26,7 @@ pub returns : goal.returns
 returns c =
     -- The records are whole wherever it counts.
     let whole : let x = c.args in in_strict x.strict (eqb (length x.reply.now % 4) 3) ≡ true = elim c.else-strict.branch [
-      else-strict-via-then-strict+else-reply-ne3 w ↦ rw (eq-eqb _ _ w.if-reply-ne3.false) (right-passes _)
-    | else-strict-via-else-strict w ↦ lenient-passes _ _ w.if-strict.false
+      | else-strict-via-then-strict+else-reply-ne3 w ↦ rw (eq-eqb _ _ w.if-reply-ne3.false) (right-passes _)
+      | else-strict-via-else-strict w ↦ lenient-passes _ _ w.if-strict.false
     ] in
     rw (whole, le-leb _ _ c.if-reply-lt3.false)

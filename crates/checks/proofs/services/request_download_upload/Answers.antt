@@ -43,7 +43,7 @@ returns-then-reply-n c =
     -- What the checks that have passed tell, each in the definition's words.
     let nibble-right : let x = c.args in in_strict x.strict (eqb (get_or x.reply.now 1 0 % 16) 0) ≡ true = elim c.else-strict.branch [ else-strict-via-then-strict+else-byte_at-ne0 w ↦ rw (← w.byte_at.ensures, eq-eqb _ _ w.if-byte_at-ne0.false) (right-passes _) | else-strict-via-else-strict w ↦ lenient-passes _ _ w.if-strict.false ] in
     let some_bytes : let x = c.args in in_strict x.strict (ltb 0 (length_bytes x.reply.now)) ≡ true = let n = c.length_bytes-n.result in
-        rw (← c.length_bytes-n.ensures.0) (strict-passes c.else-strict-2.either (λ w. lt-ltb 0 n (omega (arith, w.1))) (λ w. w)) in
+    rw (← c.length_bytes-n.ensures.0) (strict-passes c.else-strict-2.either (λ w. lt-ltb 0 n (omega (arith, w.1))) (λ w. w)) in
     rw (
       le-leb _ _ c.if-reply-lt2.false,
       nibble-right,
@@ -58,7 +58,7 @@ returns-then-reply-n-2 c =
     -- What the checks that have passed tell, each in the definition's words.
     let nibble-right : let x = c.args in in_strict x.strict (eqb (get_or x.reply.now 1 0 % 16) 0) ≡ true = elim c.else-strict.branch [ else-strict-via-then-strict+else-byte_at-ne0 w ↦ rw (← w.byte_at.ensures, eq-eqb _ _ w.if-byte_at-ne0.false) (right-passes _) | else-strict-via-else-strict w ↦ lenient-passes _ _ w.if-strict.false ] in
     let some_bytes : let x = c.args in in_strict x.strict (ltb 0 (length_bytes x.reply.now)) ≡ true = let n = c.length_bytes-n.result in
-        rw (← c.length_bytes-n.ensures.0) (strict-passes c.else-strict-2.either (λ w. lt-ltb 0 n (omega (arith, w.1))) (λ w. w)) in
+    rw (← c.length_bytes-n.ensures.0) (strict-passes c.else-strict-2.either (λ w. lt-ltb 0 n (omega (arith, w.1))) (λ w. w)) in
     let x = c.args in
     let n = c.length_bytes-n.result in
     rw (
@@ -76,12 +76,12 @@ returns c =
     -- What the checks that have passed tell, each in the definition's words.
     let nibble-right : let x = c.args in in_strict x.strict (eqb (get_or x.reply.now 1 0 % 16) 0) ≡ true = elim c.else-strict.branch [ else-strict-via-then-strict+else-byte_at-ne0 w ↦ rw (← w.byte_at.ensures, eq-eqb _ _ w.if-byte_at-ne0.false) (right-passes _) | else-strict-via-else-strict w ↦ lenient-passes _ _ w.if-strict.false ] in
     let some_bytes : let x = c.args in in_strict x.strict (ltb 0 (length_bytes x.reply.now)) ≡ true = let n = c.length_bytes-n.result in
-        rw (← c.length_bytes-n.ensures.0) (strict-passes c.else-strict-2.either (λ w. lt-ltb 0 n (omega (arith, w.1))) (λ w. w)) in
+    rw (← c.length_bytes-n.ensures.0) (strict-passes c.else-strict-2.either (λ w. lt-ltb 0 n (omega (arith, w.1))) (λ w. w)) in
     let no_more : let x = c.args in in_strict x.strict (leb (length x.reply.now) (c.length_bytes-n.result + 2)) ≡ true = let x = c.args in
-        let n = c.length_bytes-n.result in
-        elim c.else-strict-3.branch [
-      else-strict-3-via-then-strict-3+else-reply-n-2 w ↦ rw (le-leb _ _ w.if-reply-n-2.false) (right-passes _)
-    | else-strict-3-via-else-strict-3 w ↦ lenient-passes _ _ w.if-strict-3.false
+    let n = c.length_bytes-n.result in
+    elim c.else-strict-3.branch [
+      | else-strict-3-via-then-strict-3+else-reply-n-2 w ↦ rw (le-leb _ _ w.if-reply-n-2.false) (right-passes _)
+      | else-strict-3-via-else-strict-3 w ↦ lenient-passes _ _ w.if-strict-3.false
     ] in
     rw (
       le-leb _ _ c.if-reply-lt2.false,

@@ -17,7 +17,7 @@ overflow_cast-result c =
     -- The place that the reply names is as long as its bytes, and these are no more than it says.
     let long : let args = c.args in length (named args.replies.now (entry_of args.event)).bytes ≡ c.named-place.result.len = ap (λ (p : Part). length p.bytes) (sym c.named-place.ensures.means) ∙ c.named-place.ensures.whole in
     let short : c.named-place.result.len ≤ c.args.event.size = let args = c.args in
-        omega (arith, long, length-take args.event.size (drop args.event.offset args.replies.now)) in
+    omega (arith, long, length-take args.event.size (drop args.event.offset args.replies.now)) in
     omega (arith, short)
 
 pub returns : goal.returns

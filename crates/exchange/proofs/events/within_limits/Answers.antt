@@ -33,7 +33,7 @@ returns-then-event-last c =
     let form = form_of c.args.form in
     -- Of a list with the right length, the times and the events decide.
     let decided : let a = c.args in (b : Bool) → b ≡ limits a.replies.now 0 (entries form a.events.now) → b ≡ within_limits form a.events.now a.replies.now = let a = c.args in
-        within form a.events.now a.replies.now (rw (← c.event_size-size.ensures) c.if-events-size-ne0.false) (omega (arith, c.event_count-n.ensures, c.if-n-gt512.false)) in
+    within form a.events.now a.replies.now (rw (← c.event_size-size.ensures) c.if-events-size-ne0.false) (omega (arith, c.event_count-n.ensures, c.if-n-gt512.false)) in
     let l = c.loop-i in
     let a = c.args in
     let falls = limits-fall form a.replies.now a.events.now c.event_count-n.result l.i l.last
@@ -49,12 +49,12 @@ returns-then-not-sound c =
     let form = form_of c.args.form in
     -- Of a list with the right length, the times and the events decide.
     let decided : let a = c.args in (b : Bool) → b ≡ limits a.replies.now 0 (entries form a.events.now) → b ≡ within_limits form a.events.now a.replies.now = let a = c.args in
-        within form a.events.now a.replies.now (rw (← c.event_size-size.ensures) c.if-events-size-ne0.false) (omega (arith, c.event_count-n.ensures, c.if-n-gt512.false)) in
+    within form a.events.now a.replies.now (rw (← c.event_size-size.ensures) c.if-events-size-ne0.false) (omega (arith, c.event_count-n.ensures, c.if-n-gt512.false)) in
     -- An event whose time does not fall passes the question on to those behind it if it is sound.
     let goes : let l = c.loop-i in let a = c.args in (s : Bool) → s ≡ c.sound.result → (s && limits a.replies.now (entry_of c.event_in-event.result).time (entries_from form a.events.now (c.event_count-n.result - (l.i + 1)) (l.i + 1))) ≡ limits a.replies.now 0 (entries form a.events.now) = λ s e. let l = c.loop-i in
-        let a = c.args in
-        sym (limits-go form a.replies.now a.events.now c.event_count-n.result l.i l.last (entry_of c.event_in-event.result) c.event_in-event.ensures
-        c.loop-i-test.true s (e ∙ c.sound.ensures) c.if-event-last.false) ∙ l.invariant.1 in
+    let a = c.args in
+    sym (limits-go form a.replies.now a.events.now c.event_count-n.result l.i l.last (entry_of c.event_in-event.result) c.event_in-event.ensures
+    c.loop-i-test.true s (e ∙ c.sound.ensures) c.if-event-last.false) ∙ l.invariant.1 in
     decided false
     (goes false (sym (not-true _ c.if-not-sound.true-raw)))
 
@@ -69,9 +69,9 @@ loop-i-preserved c =
     let form = form_of c.args.form in
     -- An event whose time does not fall passes the question on to those behind it if it is sound.
     let goes : let l = c.loop-i in let a = c.args in (s : Bool) → s ≡ c.sound.result → (s && limits a.replies.now (entry_of c.event_in-event.result).time (entries_from form a.events.now (c.event_count-n.result - (l.i + 1)) (l.i + 1))) ≡ limits a.replies.now 0 (entries form a.events.now) = λ s e. let l = c.loop-i in
-        let a = c.args in
-        sym (limits-go form a.replies.now a.events.now c.event_count-n.result l.i l.last (entry_of c.event_in-event.result) c.event_in-event.ensures
-        c.loop-i-test.true s (e ∙ c.sound.ensures) c.if-event-last.false) ∙ l.invariant.1 in
+    let a = c.args in
+    sym (limits-go form a.replies.now a.events.now c.event_count-n.result l.i l.last (entry_of c.event_in-event.result) c.event_in-event.ensures
+    c.loop-i-test.true s (e ∙ c.sound.ensures) c.if-event-last.false) ∙ l.invariant.1 in
     (omega arith, goes true (sym (not-false _ c.if-not-sound.false-raw)))
 
 pub returns : goal.returns
@@ -79,7 +79,7 @@ returns c =
     let form = form_of c.args.form in
     -- Of a list with the right length, the times and the events decide.
     let decided : let a = c.args in (b : Bool) → b ≡ limits a.replies.now 0 (entries form a.events.now) → b ≡ within_limits form a.events.now a.replies.now = let a = c.args in
-        within form a.events.now a.replies.now (rw (← c.event_size-size.ensures) c.if-events-size-ne0.false) (omega (arith, c.event_count-n.ensures, c.if-n-gt512.false)) in
+    within form a.events.now a.replies.now (rw (← c.event_size-size.ensures) c.if-events-size-ne0.false) (omega (arith, c.event_count-n.ensures, c.if-n-gt512.false)) in
     let l = c.loop-i in
     let a = c.args in
     decided true

@@ -47,7 +47,7 @@ overflow_add-result c =
     let is-other : get_or c.whole-reply.result.now 0 0 ≢ 0x7f = rw c.byte_at.ensures at c.if-byte_at-eq-NEGATIVE_RESPONSE.false in
     -- A positive's data begins within the reply, and the reply lies in the lent bytes.
     let fits : (c.head-before.result ≤ length c.whole-reply.result.now) × (c.args.place.at + length c.whole-reply.result.now ≤ length c.args.replies.now) = let passed = ap verdict_of (sym c.in-Passed-positive_checks.is) ∙ c.positive_checks.ensures in
-        head-fits reply c.if-reply-eq0.false is-other passed c.head-before.ensures in
+    head-fits reply c.if-reply-eq0.false is-other passed c.head-before.ensures in
     omega (arith, fits)
 
 pub overflow_sub-result : goal.overflow_sub-result
@@ -57,7 +57,7 @@ overflow_sub-result c =
     let is-other : get_or c.whole-reply.result.now 0 0 ≢ 0x7f = rw c.byte_at.ensures at c.if-byte_at-eq-NEGATIVE_RESPONSE.false in
     -- A positive's data begins within the reply, and the reply lies in the lent bytes.
     let fits : (c.head-before.result ≤ length c.whole-reply.result.now) × (c.args.place.at + length c.whole-reply.result.now ≤ length c.args.replies.now) = let passed = ap verdict_of (sym c.in-Passed-positive_checks.is) ∙ c.positive_checks.ensures in
-        head-fits reply c.if-reply-eq0.false is-other passed c.head-before.ensures in
+    head-fits reply c.if-reply-eq0.false is-other passed c.head-before.ensures in
     fits.0
 
 pub returns-in-Failed-positive_checks : goal.returns-in-Failed-positive_checks

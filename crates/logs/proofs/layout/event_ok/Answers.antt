@@ -12,8 +12,8 @@ pub returns : goal.returns
 returns c =
     -- The length that is asked: none of kind 3.
     let asked : let event = c.args.event in c.if-kind-eq3.size ≡ cond (eqb event.kind 3) 0 event.size = elim c.if-kind-eq3.branch [
-      then-kind-eq3 w ↦ w.size-is ∙ rw (eq-eqb _ 3 w.if-kind-eq3.true)
-    | else-kind-eq3 w ↦ w.size-is ∙ rw (ne_eqb _ 3 w.if-kind-eq3.false)
+      | then-kind-eq3 w ↦ w.size-is ∙ rw (eq-eqb _ 3 w.if-kind-eq3.true)
+      | else-kind-eq3 w ↦ w.size-is ∙ rw (ne_eqb _ 3 w.if-kind-eq3.false)
     ] in
     let event = c.args.event in
     ap (λ (n : ℕ). (eqb event.kind 0 || ltb 3 event.kind) || (eqb event.offset 0 && eqb n 0)) asked ∙

@@ -14,8 +14,8 @@ returns c =
     c.form_in-form.ensures
     c.header_size-header.ensures
     (elim c.if-h-eq1.branch [
-      then-h-eq1 w ↦ w.tests-is ∙ rw (eq-eqb x.h.version 1 w.if-h-eq1.true)
-    | else-h-eq1 w ↦ w.tests-is ∙ rw (ne_eqb x.h.version 1 w.if-h-eq1.false)
+      | then-h-eq1 w ↦ w.tests-is ∙ rw (eq-eqb x.h.version 1 w.if-h-eq1.true)
+      | else-h-eq1 w ↦ w.tests-is ∙ rw (ne_eqb x.h.version 1 w.if-h-eq1.false)
     ])
     c.areas_ok.ensures
     c.events_of.ensures
