@@ -1,5 +1,6 @@
 // The story of a log, written into a lent buffer. What it is, is `story` of `telling`.
 #![tactic(auto)]
+
 ghost use Rattle.rules.specs.Logs.{line_of};
 ghost use Rattle.telling.specs.Telling.{telling, story};
 ghost use Rattle.text.specs.Written.{Adds};
