@@ -1,10 +1,12 @@
 // Reads one log from standard input and prints its line. A read or a write that fails ends it with an error.
 #![tactic(auto)]
 
-ghost use Rattle.std.specs.Prelude.{◌≤◌, ◌≡◌, length, take};
+ghost use Rattle.std.specs.Prelude.{◌≤◌, ◌≡◌, IfSome, OnOk, length, take};
+ghost use Rattle.std.specs.Io.KnownBytes.{Appends};
 ghost use Rattle.rules.specs.Logs.{line_of};
 
 use std::io;
+use std::io::{Read, Write};
 use streams::{read_full, write_full};
 use text::{LONGEST, Written};
 use wire::part;
@@ -20,11 +22,19 @@ fn line_of(input: &[u8], n: usize, line: &mut [u8]) -> usize
     }
 }
 
-fn main(rt: HostRuntime) -> io::Result<()> {
+// The line of the log that is read goes to the writer.
+fn print_line<R: Read, W: Write>(log: &mut R, line_to: &mut W) -> io::Result<()>
+    ensures { OnOk result (IfSome (R.remaining log.old) (λ bytes.
+        Appends (W.contents line_to.old) (W.contents line_to.new) (line_of (take 65536 bytes)))) }
+{
     // one byte more than the longest log: input that fills it is not as long as its header says, so it is a bad log
     let mut input = [0u8; 65536];
-    let n = read_full(&mut rt.stdin(), &mut input)?;
+    let n = read_full(log, &mut input)?;
     let mut line = [0u8; LONGEST];
     let m = line_of(&input, n, &mut line);
-    write_full(&mut rt.stdout(), part(&line, 0, m))
+    write_full(line_to, part(&line, 0, m))
+}
+
+fn main(rt: HostRuntime) -> io::Result<()> {
+    print_line(&mut rt.stdin(), &mut rt.stdout())
 }

@@ -1,14 +1,14 @@
 -- Laws of what is held in a buffer, from an index on.
 use Prim.Native.Nat.{ℕ, ◌+◌, ◌-◌, ◌≤◌, ◌<◌}
 use native.Mathlib.Omega.{arith}
-use mathlib.Core.Bool.{Bool, true, false, cond}
+use mathlib.Core.Bool.{Bool, true, false}
 use mathlib.Core.List.{List, [], ◌∷◌, ◌++◌, append-nil}
 use mathlib.Core.Path.{◌≡◌, refl, sym, ap, subst, ◌∙◌}
 use borrow.Author.Tests.{le-leb, eqb-true}
 use borrow.Rule.Slice.PartMut.{post_of, put_mid}
 use lib.Dec.{eqb}
 use lib.ListN.{length, take, drop, length-take, length-drop, length-append}
-use lib.Seq.{length-take-le, take_at, drop_at, drop-drop, take-add, take-append_seam}
+use lib.Seq.{length-take-le, take_at, drop_at, drop-drop, take-add, take-append_seam, take-append-le}
 use Rattle.wire.specs.Buffers.{with, Copied}
 use Rattle.log_lines.specs.Batches.{Waits, Batched, Ended}
 use Rattle.log_lines.specs.declared.Batch.{Batch}
@@ -55,28 +55,31 @@ module _ (from held : ℕ) (input spare first spare-after second input-after : L
 pub taken-held : (from held t : ℕ) (input l : List ℕ) → l ≡ take held (drop from input) → t ≤ length l → t ≤ held
 taken-held from held t input l is inside = omega (arith, inside, ap length is, length-take held (drop from input))
 
--- The lines of what is held are printed.
-pub printed : (run : Run) (input l out said : List ℕ) (b : Batch) → Inside run input → l ≡ held_of run input →
-    Batched run.left run.logs l b out said →
-    Printed run input (record {
+-- The lines of what is held are printed, and so many bytes of each buffer as the batch says are written.
+pub printed : (run : Run) (input l out said : List ℕ) (b : Batch) (A B : List ℕ → Type 0) → Inside run input → l ≡ held_of run input →
+    Batched run.left run.logs l b out said → A (take b.written out) → B (take b.said said) →
+    (p : Printed run input (record {
       left = b.left;
       logs = b.logs;
       from = run.from + b.taken;
       held = run.held - b.taken;
       waits = eqb b.taken 0;
       ended = run.ended;
-    }) out said
-printed run input l out said b inside is k =
-    let few = taken-held run.from run.held b.taken input l is k.inside in
-    record {
-      batch = b;
-      batched = subst (λ (m : List ℕ). Batched run.left run.logs m b out said) is k;
-      inside = omega (arith, inside, few);
-      held = rest-held run.from run.held b.taken input inside few;
-      left = refl;
-      logs = refl;
-      waits = refl;
-    }
+    }) out said) × A (take p.batch.written out) × B (take p.batch.said said)
+printed run input l out said b A B inside is k written told =
+    let few = taken-held run.from run.held b.taken input l is k.inside in (
+      record {
+        batch = b;
+        batched = subst (λ (m : List ℕ). Batched run.left run.logs m b out said) is k;
+        inside = omega (arith, inside, few);
+        held = rest-held run.from run.held b.taken input inside few;
+        left = refl;
+        logs = refl;
+        waits = refl;
+      },
+      written,
+      told,
+    )
 
 -- What came stands behind what is held, which was moved to the front.
 module _ (run : Run) (input moved-there mid : List ℕ) where
@@ -86,30 +89,47 @@ module _ (run : Run) (input moved-there mid : List ℕ) where
   abbrev after : List ℕ
   after = put_mid h (length moved-there - h) moved-there mid
 
-  pub read : (n : ℕ) → take h moved-there ≡ held_of run input → h ≤ length moved-there → n ≤ length (take (length after - h) (drop h after)) →
-      Read run input (record { left = run.left; logs = run.logs; from = 0; held = h + n; waits = false; ended = eqb n 0 }) after
-  read n front fits some =
+  pub read : (n : ℕ) (C : List ℕ → Type 0) {E : Type 0} → take h moved-there ≡ held_of run input → h < length moved-there →
+      length mid ≡ length moved-there - h → n ≤ length mid → C (take n mid) → (n ≡ 0 → 0 < length mid → E) →
+      (r : Read run input (record { left = run.left; logs = run.logs; from = 0; held = h + n; waits = false; ended = eqb n 0 }) after) ×
+      C r.came × (length r.came ≡ 0 → E)
+  read n C front fits room some came end =
       let past : List ℕ = mid ++ post_of h (length moved-there - h) moved-there in
-      let short : length (take h moved-there) ≡ h = length-take-le h moved-there fits in
-      let counts : n ≤ length (drop h after) = omega (arith, some, length-take (length after - h) (drop h after)) in
-      let counted : length (take n (drop h after)) ≡ n = length-take-le n (drop h after) counts in
-      record {
-        came = take n (drop h after);
-        inside = omega (arith, counts, length-drop h after, short, length-append (take h moved-there) past);
-        held = take-add h n after ∙ ap (λ (l : List ℕ). l ++ take n (drop h after)) (take_at (take h moved-there) past h short ∙ front);
-        left = refl;
-        logs = refl;
-        ended = ap (λ (m : ℕ). eqb m 0) (sym counted);
-      }
+      let short : length (take h moved-there) ≡ h = length-take-le h moved-there (omega (arith, fits)) in
+      let behind : take n (drop h after) ≡ take n mid =
+      ap (take n) (drop_at (take h moved-there) past h short) ∙ take-append-le n mid (post_of h (length moved-there - h) moved-there) some in
+      let counted : length (take n mid) ≡ n = length-take-le n mid some in (
+        record {
+          came = take n mid;
+          inside = omega (
+            arith,
+            some,
+            short,
+            length-append (take h moved-there) past,
+            length-append mid (post_of h (length moved-there - h) moved-there),
+          );
+          held = take-add h n after ∙ ap (λ (l : List ℕ). l ++ take n (drop h after)) (take_at (take h moved-there) past h short ∙ front) ∙
+              ap (λ (l : List ℕ). held_of run input ++ l) behind;
+          left = refl;
+          logs = refl;
+          ended = ap (λ (m : ℕ). eqb m 0) (sym counted);
+        },
+        came,
+        λ none. end (sym counted ∙ none) (omega (arith, room, fits)),
+      )
 
--- The end is printed.
-pub closed : (run : Run) (input l before unsaid after told : List ℕ) (e : Ending) → l ≡ held_of run input →
-    Ended run.left run.logs l before unsaid e after told →
-    Closed run input before unsaid after told
-closed run input l before unsaid after told e is k = record {
-  end = e;
-  ended = subst (λ (m : List ℕ). Ended run.left run.logs m before unsaid e after told) is k;
-}
+-- The end is printed, so many bytes of each buffer as it says.
+pub closed : (run : Run) (input l before unsaid after told : List ℕ) (e : Ending) (A B : List ℕ → Type 0) → l ≡ held_of run input →
+    Ended run.left run.logs l before unsaid e after told → A (take e.written after) → B (take e.said told) →
+    (c : Closed run input before unsaid after told) × A (take c.end.written after) × B (take c.end.said told)
+closed run input l before unsaid after told e A B is k written said = (
+  record {
+    end = e;
+    ended = subst (λ (m : List ℕ). Ended run.left run.logs m before unsaid e after told) is k;
+  },
+  written,
+  said,
+)
 
 -- What `main` knows where nothing could be taken.
 module _ {run r : Run} {input out said : List ℕ} (p : Printed run input r out said) (waiting : r.waits ≡ true) (room : 65536 ≡ length out)

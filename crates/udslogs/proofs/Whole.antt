@@ -1,8 +1,8 @@
 -- The promises of a whole run.
 use Prim.Native.Nat.{ℕ}
 use mathlib.Core.List.{List, []}
-use mathlib.Core.Path.{◌≡◌, sym, ap, subst, ◌∙◌}
-use lib.ListN.{length, take, drop}
+use mathlib.Core.Path.{◌≡◌, ap, subst}
+use lib.ListN.{take, drop}
 use Rattle.log_lines.specs.Runs as lines
 use Rattle.log_lines.proofs.Promises.{however-it-comes, however-it-is-said}
 use Rattle.udslogs.specs.declared.Run.{Run}

@@ -1,5 +1,5 @@
 -- What the functions of `udslogs` do that read and write: what is held of the file, what came, and what stands in the buffers that are written.
-use Rattle.std.specs.Prelude.{ℕ, ◌+◌, ◌≤◌, ◌<◌, List, ◌++◌, ◌≡◌, eqb, length, take, drop}
+use Rattle.std.specs.Prelude.{ℕ, ◌+◌, ◌≤◌, List, ◌++◌, ◌≡◌, eqb, length, take, drop}
 use Rattle.log_lines.specs.Batches.{Batched, Ended}
 use Rattle.log_lines.specs.declared.Batch.{Batch}
 use Rattle.log_lines.specs.declared.Ending.{Ending}

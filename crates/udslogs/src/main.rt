@@ -2,7 +2,8 @@
 // length is none that a log has, and in which log the file ends. A read or a write that fails ends it with an error.
 #![tactic(auto)]
 
-ghost use Rattle.std.specs.Prelude.{◌≤◌, ◌<◌, IfOk, OnOk, length};
+ghost use Rattle.std.specs.Prelude.{◌≡◌, ◌≤◌, ◌<◌, IfOk, OnOk, length, take};
+ghost use Rattle.std.specs.Io.KnownBytes.{Appends, Consumes, IsAtEnd};
 ghost use Rattle.log_lines.specs.Batches.{Waits};
 ghost use Rattle.udslogs.specs.Turns.{Inside, held_of, Printed, Read, Closed};
 
@@ -34,7 +35,9 @@ fn print_lines<W: Write, E: Write>(
     errors_to: &mut E,
 ) -> io::Result<Run>
     requires { Inside run input.now }
-    ensures { IfOk result (λ next. Printed run input.now next out.new said.new) }
+    ensures { IfOk result (λ next. (p : Printed run input.now next out.new said.new) ×
+        Appends (W.contents lines_to.old) (W.contents lines_to.new) (take p.batch.written out.new) ×
+        Appends (E.contents errors_to.old) (E.contents errors_to.new) (take p.batch.said said.new)) }
 {
     let from = run.from;
     let held = run.held;
@@ -54,7 +57,9 @@ fn print_lines<W: Write, E: Write>(
 // Moves what is held to the buffer's front, and reads what comes behind it, into a room that is not empty.
 fn read_more<R: Read>(run: Run, input: &mut [u8], spare: &mut [u8], file: &mut R) -> io::Result<Run>
     requires { Inside run input.old × (run.held < length input.old) × (run.held ≤ length spare.old) }
-    ensures { IfOk result (λ next. Read run input.old next input.new) }
+    ensures { IfOk result (λ next. (p : Read run input.old next input.new) ×
+        Consumes (R.remaining file.old) (R.remaining file.new) p.came ×
+        (length p.came ≡ 0 → IsAtEnd (R.remaining file.new))) }
 {
     let held = run.held;
     copy_into(spare, 0, part(input, run.from, held));
@@ -80,7 +85,9 @@ fn print_end<W: Write, E: Write>(
     errors_to: &mut E,
 ) -> io::Result<()>
     requires { Waits run.left (held_of run input.now) }
-    ensures { Closed run input.now out.old said.old out.new said.new }
+    ensures { OnOk result ((c : Closed run input.now out.old said.old out.new said.new) ×
+        Appends (W.contents lines_to.old) (W.contents lines_to.new) (take c.end.written out.new) ×
+        Appends (E.contents errors_to.old) (E.contents errors_to.new) (take c.end.said said.new)) }
 {
     let r = end(
         run.left,
@@ -93,7 +100,12 @@ fn print_end<W: Write, E: Write>(
     write_full(errors_to, part(said, 0, r.said))
 }
 
-fn main(rt: HostRuntime) -> io::Result<()> {
+// Prints the lines of a file to its end.
+fn print_file<R: Read, W: Write, E: Write>(
+    file: &mut R,
+    lines_to: &mut W,
+    errors_to: &mut E,
+) -> io::Result<()> {
     // twice the longest log with its length: one that is not whole yet is moved at most once
     let mut input = [0u8; 131078];
     let mut spare = [0u8; 131078];
@@ -111,27 +123,17 @@ fn main(rt: HostRuntime) -> io::Result<()> {
     let mut turns = u64::MAX;
     while turns > 0 {
         turns -= 1;
-        run = print_lines(
-            run,
-            &input,
-            &mut out,
-            &mut said,
-            &mut rt.stdout(),
-            &mut rt.stderr(),
-        )?;
+        run = print_lines(run, &input, &mut out, &mut said, lines_to, errors_to)?;
         if run.waits {
-            run = read_more(run, &mut input, &mut spare, &mut rt.stdin())?;
+            run = read_more(run, &mut input, &mut spare, file)?;
             if run.ended {
-                return print_end(
-                    run,
-                    &input,
-                    &mut out,
-                    &mut said,
-                    &mut rt.stdout(),
-                    &mut rt.stderr(),
-                );
+                return print_end(run, &input, &mut out, &mut said, lines_to, errors_to);
             }
         }
     }
     Ok(())
+}
+
+fn main(rt: HostRuntime) -> io::Result<()> {
+    print_file(&mut rt.stdin(), &mut rt.stdout(), &mut rt.stderr())
 }

@@ -2,12 +2,16 @@
 // that fails ends it with an error.
 #![tactic(auto)]
 
-ghost use Rattle.std.specs.Prelude.{◌≤◌, length};
+ghost use Rattle.std.specs.Prelude.{◌≤◌, IfSome, OnOk, length, take};
+ghost use Rattle.std.specs.Io.KnownBytes.{Appends};
+ghost use Rattle.mending.specs.Mend.{mend};
+ghost use Rattle.mending.specs.Said.{put, said};
 ghost use Rattle.udsmend.specs.Streams.{Holds};
 
 use mend::{Mended, mend};
 use report::{LONGEST, put_refusal, put_report};
 use std::io;
+use std::io::{Read, Write};
 use streams::{read_full, write_full};
 use wire::part;
 
@@ -38,12 +42,25 @@ fn mend_input(input: &[u8], n: usize, out: &mut [u8], said: &mut [u8]) -> Stream
     }
 }
 
-fn main(rt: HostRuntime) -> io::Result<()> {
+// The damaged log that is read goes mended to one writer, and what is said of it to the other.
+fn mend_log<R: Read, W: Write, E: Write>(
+    damaged: &mut R,
+    mended_to: &mut W,
+    report_to: &mut E,
+) -> io::Result<()>
+    ensures { OnOk result (IfSome (R.remaining damaged.old) (λ bytes.
+        Appends (W.contents mended_to.old) (W.contents mended_to.new) (put (mend (take 65536 bytes))) ×
+        Appends (E.contents report_to.old) (E.contents report_to.new) (said (mend (take 65536 bytes))))) }
+{
     let mut input = [0u8; 65536];
-    let n = read_full(&mut rt.stdin(), &mut input)?;
+    let n = read_full(damaged, &mut input)?;
     let mut out = [0u8; 65536];
     let mut said = [0u8; LONGEST];
     let ends = mend_input(&input, n, &mut out, &mut said);
-    write_full(&mut rt.stdout(), part(&out, 0, ends.out))?;
-    write_full(&mut rt.stderr(), part(&said, 0, ends.said))
+    write_full(mended_to, part(&out, 0, ends.out))?;
+    write_full(report_to, part(&said, 0, ends.said))
+}
+
+fn main(rt: HostRuntime) -> io::Result<()> {
+    mend_log(&mut rt.stdin(), &mut rt.stdout(), &mut rt.stderr())
 }

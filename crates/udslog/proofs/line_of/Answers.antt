@@ -1,9 +1,5 @@
 -- `line_of` meets its contract: there is always room.
-use Prim.Native.Nat.{ℕ, zero, suc, ◌<◌}
-use native.Mathlib.Omega.{arith}
-use mathlib.Core.List.{List, ◌∷◌}
-use mathlib.Core.Path.{◌≡◌}
-use lib.ListN.{get_or, take}
+use Rattle.std.proofs.Common.{◌≡◌, ◌<◌, ℕ, zero, suc, List, [], ◌∷◌, take, get_or, arith}
 use Rattle.text.specs.declared.Written.{Written}
 use Rattle.text.specs.declared.Written.TheVariants.{Line, NoRoom}
 use Rattle.log_line.proofs.Longest.{always-room, stands}
@@ -18,9 +14,6 @@ bytes_take (suc n) [] h i = h i
 bytes_take (suc n) (x ∷ xs) h zero = h 0
 bytes_take (suc n) (x ∷ xs) h (suc i) = bytes_take n xs (λ k. h (suc k)) i
 
-bytes : (a : goal.After-line_of) (i : ℕ) → get_or log i 0 < 256
-bytes a = bytes_take a.args.n a.args.input.now (λ i. omega (arith, a.shared_slice_known-1.given i))
-
 never : {w : Written} {n : ℕ} → w ≡ Line n → w ≡ NoRoom → ⊥
 never e k = let z : ◌≡◌ {A = ℕ} 0 1 = cc in omega arith
 
@@ -28,14 +21,14 @@ pub returns-in-Line : goal.returns-in-Line
 returns-in-Line c =
     -- All that was read.
     let log = take c.args.n c.args.input.now in
+    let bytes = bytes_take c.args.n c.args.input.now (λ i. omega (arith, c.type_inv.input i)) in
     -- The line of what was handed on is the line of what was read.
     let wrote : Wrote (line_of log) c.args.line.now c.line_of.result c.line_of.new.line = rw (← c.part.ensures) c.line_of.ensures in
-    stands log (bytes c.before.before.before.before.before) c.requires wrote c.in-Line.is
+    stands log bytes c.requires wrote c.in-Line.is
 
 pub returns-in-NoRoom : goal.returns-in-NoRoom
 returns-in-NoRoom c =
-    -- All that was read.
     let log = take c.args.n c.args.input.now in
-    -- The line of what was handed on is the line of what was read.
+    let bytes = bytes_take c.args.n c.args.input.now (λ i. omega (arith, c.type_inv.input i)) in
     let wrote : Wrote (line_of log) c.args.line.now c.line_of.result c.line_of.new.line = rw (← c.part.ensures) c.line_of.ensures in
-    absurd (never (always-room log (bytes c.before.before.before.before) c.requires wrote) c.in-NoRoom.is)
+    absurd (never (always-room log bytes c.requires wrote) c.in-NoRoom.is)

@@ -31,6 +31,6 @@ returns-in-NoRoom c =
     -- All that was read.
     let read = c.part.result.now in
     let bytes : every is_byte read ≡ true = let x = c.args in
-    let input = are-bytes x.input.now (λ i. omega (arith, c.shared_slice_known-1.given i)) in
+    let input = are-bytes x.input.now (λ i. omega (arith, c.type_inv.input i)) in
     rw c.part.ensures (every_take is_byte x.n x.input.now input) in
     absurd (room-enough read c.args.out.now bytes (inr c.requires.0) c.mend.new.out (rw c.in-NoRoom.is at c.mend.ensures))

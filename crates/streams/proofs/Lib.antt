@@ -1,0 +1,2 @@
+-- Laws for the callers of `streams`.
+pub mod Ends
