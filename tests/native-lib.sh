@@ -91,19 +91,21 @@ try "native-lib: a must-fail edit is no source" 0 "$(built 4)" "" native_after '
 try "native-lib: what rt keeps is no source" 0 "$(built 4)" "" native_after 'mkdir crates/rules/out && echo 4 >crates/rules/out/kept'
 try "native-lib: a new source" 0 "$(built 5)" "" native_after 'echo 5 >crates/rules/src/more.rt'
 try "native-lib: a source that is gone" 0 "$(built 6)" "" native_after 'rm crates/rules/src/more.rt'
-try "native-lib: a missing archive" 0 "$(built 7)" "" native_after 'rm target/native/libbintrochis.a'
-try "native-lib: a changed archive" 0 "$(built 8)" "" native_after 'echo 6 >>target/native/libbintrochis.a'
-try "native-lib: a missing library" 0 "$(built 9)" "" native_after 'rm target/native/libbintrochis.so'
-try "native-lib: another kit" 0 "$(built 10)" "" native_after "echo 'kit 2' >'$room/kit/KIT-ID'"
+# The libraries are proved; what stands over them is compiled.
+compiled() { echo "target/native/libbintrochis.a" && each - 'by the compiler for x86_64-unknown-linux-gnu'; }
+try "native-lib: a missing archive" 0 "$(compiled)" "" native_after 'rm target/native/libbintrochis.a'
+try "native-lib: a changed archive" 0 "$(compiled)" "" native_after 'echo 6 >>target/native/libbintrochis.a'
+try "native-lib: a missing library" 0 "$(compiled)" "" native_after 'rm target/native/libbintrochis.so'
+try "native-lib: another kit" 0 "$(built 7)" "" native_after "echo 'kit 2' >'$room/kit/KIT-ID'"
 try "native-lib: what cannot be proved is not built" 1 "" "host_c::f: not proved" native_after 'touch broken && echo 7 >>crates/rules/src/lib.rt'
-try "native-lib: and is tried again" 0 "$(built 12)" "" native_after 'rm broken'
+try "native-lib: and is tried again" 0 "$(built 9)" "" native_after 'rm broken'
 
 # For another processor: the kit's compiler is called for one that it knows; for others its clang compiles the module that the compiler gave it.
 native_arm=target/native-aarch64/libbintrochis.a
 for_arm() { echo "$native_arm" && each - 'by the compiler for aarch64-unknown-linux-gnu'; }
 try "native-lib: for another processor" 0 "$(for_arm)" "" archive --for aarch64
-try "native-lib: which leaves this processor's alone" 0 "$(built 12)" "" archive
-try "native-lib: for this processor by its name" 0 "$(built 12)" "" archive --for x86_64
+try "native-lib: which leaves this processor's alone" 0 "$(built 9)" "" archive
+try "native-lib: for this processor by its name" 0 "$(built 9)" "" archive --for x86_64
 try "native-lib: for no processor" 2 "" "usage: native-lib" native --for
 without_system() { echo target/native-thumbv7em/libbintrochis.a && each - '--target=thumbv7em-unknown-none-eabi -mllvm -less=false -O3 -Wno-override-module'; }
 for_armv7() { echo target/native-armv7/libbintrochis.a && each - '--target=armv7-unknown-linux-gnu -fPIC -mllvm -less=false -O3 -Wno-override-module'; }
@@ -127,9 +129,9 @@ by_ci() { # by_ci COMMAND: `rt ci`, as it were, behind that
         PATH=$stand_ins:$PATH && scripts/built --keep "$(scripts/built --sum)")
 }
 over_ci() { by_ci "$1" && archive; }
-try "native-lib: over what rt ci proved" 0 "target/native/libbintrochis.a"$'\n'"$(each - 'by the compiler for x86_64-unknown-linux-gnu')" "" \
+try "native-lib: over what rt ci proved" 0 "$(compiled)" "" \
     over_ci 'echo 9 >>crates/rules/src/lib.rt'
-try "native-lib: and after a change by rt lib" 0 "$(built 16)" "" native_after 'echo 10 >>crates/rules/src/lib.rt'
+try "native-lib: and after a change by rt lib" 0 "$(built 10)" "" native_after 'echo 10 >>crates/rules/src/lib.rt'
 
 # A processor on which nobody tried the library.
 try "native-lib: for a processor that was never tried" 2 "" "never tried on the processor i686" native --for i686
@@ -142,7 +144,7 @@ if command -v flock >/dev/null; then
         (cd "$library" && touch slow && echo 11 >>crates/rules/src/lib.rt)
         (archive & archive && wait) | sort -u
     }
-    try "native-lib: two at once build one after the other, and once" 0 "$(built 17 | sort)" "" at_once
+    try "native-lib: two at once build one after the other, and once" 0 "$(built 11 | sort)" "" at_once
     rm "$library/slow"
 else
     echo "skipped: two native-lib at once, since there is no flock on the path."
@@ -156,8 +158,8 @@ if command -v rustc >/dev/null; then
         (cd "$library" && eval "$1") && HOST=x86_64-linux TARGET=x86_64-linux PATH=$stand_ins:$PATH "$room/build-script" | sed -n 's/^cargo:rustc-link-lib=//p' &&
             cat "$library/target/native/libbintrochis.a"
     }
-    try "native-lib: cargo's build of a changed source" 0 "static:+verbatim=libbintrochis.a"$'\n'"$(built 18 | tail -n +2)" "" linked 'echo 12 >>crates/rules/src/lib.rt'
-    try "native-lib: cargo's build where nothing changed" 0 "static:+verbatim=libbintrochis.a"$'\n'"$(built 18 | tail -n +2)" "" linked :
+    try "native-lib: cargo's build of a changed source" 0 "static:+verbatim=libbintrochis.a"$'\n'"$(built 12 | tail -n +2)" "" linked 'echo 12 >>crates/rules/src/lib.rt'
+    try "native-lib: cargo's build where nothing changed" 0 "static:+verbatim=libbintrochis.a"$'\n'"$(built 12 | tail -n +2)" "" linked :
 else
     echo "skipped: the build script of the bindings for Rust, since there is no rustc on the path."
 fi
