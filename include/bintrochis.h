@@ -8,7 +8,8 @@
  * pointer with length 0 may be null; null with another length is misuse.
  *
  * The functions named bintrochis_door_.. are proved, in `crates/host` and the crates `.._door`; their `specs` have the definitions that they
- * equal. What this header adds has no proof: structs in place of their arguments, inline, some 150 lines to read from "What the structs become" on.
+ * equal. The crates `host_c` and `.._door_c` export them under the same promises. What this header adds has no proof: structs
+ * in place of their arguments, inline, some 150 lines to read from "What the structs become" on.
  * The names of negative codes, for display, are in bintrochis_codes.h. */
 #ifndef BINTROCHIS_H
 #define BINTROCHIS_H

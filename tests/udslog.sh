@@ -114,6 +114,17 @@ without_rt() { # on a processor that the program is not for
     PATH=$room/arm scripts/run target/bin/udslog
 }
 try "run: no rt on the path, on Arm" 1 "" "no rt on the path" without_rt
+without_emulator() {
+    printf '#!/bin/bash\necho /a/kit/START-HERE.md\n' >"$room/arm/rt" && chmod +x "$room/arm/rt"
+    PATH=$room/arm scripts/run target/bin/udslog
+}
+emulated() {
+    printf '#!/bin/bash\necho "$@"\n' >"$room/arm/qemu-x86_64" && chmod +x "$room/arm/qemu-x86_64"
+    PATH=$room/arm scripts/run target/bin/udslog word
+}
+try "run: no emulator on the path, on Arm" 1 "" "no qemu-x86_64 on the path" without_emulator
+kit=/a/kit/toolchain/lib
+try "run: an emulator on the path, on Arm" 0 "$kit/ld-linux-x86-64.so.2 --library-path $kit target/bin/udslog word" "" emulated
 tidy() { mkdir "$room/tmp" && TMPDIR=$room/tmp ./udslog "$log" && ls -A "$room/tmp"; }
 no_folder() { TMPDIR=$room/none ./udslog "$log"; }
 try "udslog: no temporary file stays" 0 "$line" "" tidy

@@ -1,12 +1,12 @@
 -- From a response to its line; and a line's tests, one by one.
-use Prim.Native.Nat.{ℕ, zero, suc, ◌+◌, ◌*◌, ◌/◌, ◌%◌, ◌≤◌, ◌<◌}
+use Prim.Native.Nat.{ℕ, zero, suc, ◌+◌, ◌%◌, ◌≤◌, ◌<◌}
 use native.Mathlib.Omega.{arith}
-use mathlib.Core.Bool.{Bool, true, false, cond, true≢false, ◌&&◌}
+use mathlib.Core.Bool.{Bool, true, false, cond, true≢false}
 use mathlib.Core.Path.{◌≡◌, refl, sym, ◌∙◌, ap, subst}
 use mathlib.Core.List.{List, [], ◌∷◌, ◌++◌}
-use borrow.Author.Tests.{le-leb, lt-leb, leb-true, leb-false}
+use borrow.Author.Tests.{le-leb, lt-leb, leb-true}
 use lib.Dec.{leb, eqb}
-use lib.ListN.{length, get_or, take, drop, replicate, length-take, length-drop}
+use lib.ListN.{length, get_or, take, drop, replicate, length-take}
 use lib.Seq.{take_at}
 use Rattle.rules.specs.Bytes.{every}
 use Rattle.rules.specs.Lines.{ascii, decimal_to}
@@ -15,16 +15,14 @@ use Rattle.rules.specs.Refusals.{between}
 use Rattle.rules.proofs.Judging.{both}
 use Rattle.bench.specs.Responder as bench
 use Rattle.bench.specs.Responder.{Responded}
-use Rattle.bench.specs.Talk.{is_digit, is_hex_digit, number_from, space_at, digits, number, numbered, line_tests, request_in, room_in, shown, newline, Talked, talked, answered, to_line, unended, talk}
+use Rattle.bench.specs.Talk.{is_digit, is_hex_digit, number_from, digits, number, numbered, line_tests, request_in, room_in, shown, newline, Talked, talked, answered, to_line, unended, talk}
 use Rattle.responder.specs.declared.Response.{Response}
 use Rattle.responder.specs.declared.Response.TheVariants.{Replied, Silent, Refused}
-use Rattle.responder.specs.Promises.{said_by}
 use Rattle.responder.specs.Responding.{Responds}
 use Rattle.responder.proofs.Promises.{promises}
 use Rattle.text.specs.declared.Written.{Written}
 use Rattle.text.specs.declared.Written.TheVariants.{Line, NoRoom}
 use Rattle.text.specs.Written.{put, Put}
-use Rattle.bench_line.specs.declared.Room.{Room}
 use Rattle.bench_line.specs.declared.Room.TheVariants.{Of, Unreadable}
 use Rattle.bench_line.specs.Answered.{room_of, room_asked, told, Answers, Wrote}
 

@@ -7,15 +7,13 @@ use mathlib.Core.Path.{◌≡◌, refl, sym, ◌∙◌, ap}
 use mathlib.Core.Logic.{◌≢◌}
 use mathlib.Core.List.{List, [], ◌∷◌, ◌++◌}
 use borrow.Author.Tests.{le-leb, lt-leb, lt-ltb, le-ltb, eq-eqb, ne_eqb}
-use lib.Dec.{leb, eqb}
+use lib.Dec.{leb}
 use lib.ListN.{length, get_or, take, drop, set, drop_of_length-le}
-use lib.Seq.{drop-cons, take-suc-set, take_all, take-length}
+use lib.Seq.{drop-cons, take-suc-set, take-length}
 use Rattle.rules.specs.Bytes.{every}
 use Rattle.rules.specs.Lines.{digit}
-use Rattle.rules.specs.Logs.{all}
-use Rattle.rules.specs.Refusals.{between}
 use Rattle.rules.proofs.Judging.{both}
-use Rattle.bench.specs.Talk.{is_digit, is_hex_digit, nibble, unhex, number_from, unended, space_at, number, numbered}
+use Rattle.bench.specs.Talk.{is_digit, nibble, unhex, number_from, unended, space_at, number}
 use Rattle.wire.specs.Buffers.{with, Copied}
 use Rattle.text.specs.Written.{put, Put}
 use Rattle.bench_line.specs.declared.Room.{Room}

@@ -1,14 +1,12 @@
 -- Laws of a log that is put behind the others: what each step leaves in the buffer.
-use Prim.Native.Nat.{ℕ, zero, suc, ◌+◌, ◌-◌, ◌*◌, ◌≤◌, ◌<◌}
-use native.Mathlib.Nat.{sub-zero}
+use Prim.Native.Nat.{ℕ, suc, ◌+◌, ◌-◌, ◌*◌, ◌≤◌, ◌<◌}
 use native.Mathlib.Numerals.{add-one}
 use native.Mathlib.Omega.{arith}
 use mathlib.Core.Bool.{true}
 use mathlib.Core.List.{List, [], ◌∷◌, ◌++◌, append_assoc, append-nil}
-use mathlib.Core.Path.{◌≡◌, refl, sym, ◌∙◌, ap, ap₂, subst}
-use lib.Dec.{leb}
+use mathlib.Core.Path.{◌≡◌, refl, sym, ◌∙◌, ap, ap₂}
 use lib.ListN.{length, get_or, set, take, drop, length-append, length-take, length-drop, take-append-drop, get_or-append}
-use lib.Seq.{take_at, drop_at, drop-drop, drop-cons, take-suc, take-add, append_snoc, set_at, length-take-le, get_or-take, get_or-drop}
+use lib.Seq.{take_at, drop_at, drop-drop, drop-cons, take-suc, append_snoc, set_at, length-take-le, get_or-take, get_or-drop}
 use borrow.Author.Tests.{le-leb}
 use Rattle.rules.specs.Bytes.{u16_at, four}
 use Rattle.rules.specs.Logs.{area}

@@ -24,7 +24,7 @@ use Rattle.book.specs.declared.Added.{Added}
 use Rattle.book.specs.declared.Added.TheVariants.{Book, Refused, NoRoom}
 use Rattle.book.specs.declared.Entry.{Entry}
 use Rattle.book.specs.declared.summary.Summed.{Summed}
-use Rattle.book.specs.Answered.{answer_of, stands_at, Finds, Answer, entry_of, added_of, answered, left, counts, Adds, Sums}
+use Rattle.book.specs.Answered.{Finds, Answer, entry_of, added_of, answered, left, counts, Adds, Sums}
 
 never : {P : Type 0} → ◌≡◌ {A = ℕ} 0 1 → P
 never e = absurd (omega arith)

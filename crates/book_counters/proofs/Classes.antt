@@ -3,13 +3,12 @@ use Prim.Native.Nat.{ℕ}
 use mathlib.Core.List.{List, []}
 use mathlib.Core.Path.{◌≡◌, refl}
 use Rattle.rules.specs.Answers as rules
-use Rattle.exchange.specs.Meaning.{deviation_of, fault_of, outcome_of}
+use Rattle.exchange.specs.Meaning.{deviation_of, outcome_of}
 use Rattle.exchange.specs.declared.error.ProtocolDeviation.{ProtocolDeviation}
 use Rattle.exchange.specs.declared.error.ProtocolDeviation.TheVariants as protocol
-use Rattle.exchange.specs.declared.error.Fault.TheVariants as wrong
 use Rattle.exchange.specs.declared.types.Outcome.{Outcome}
 use Rattle.exchange.specs.declared.types.Outcome.TheVariants as outcome
-use Rattle.bookkeeping.specs.Summary.{Class, class_in, deviating, slot}
+use Rattle.bookkeeping.specs.Summary.{class_in, deviating}
 
 -- The reply bytes play no part in the class.
 pub same_class : (replies : List ℕ) (o : Outcome) → class_in (outcome_of [] o) ≡ class_in (outcome_of replies o)

@@ -1,5 +1,5 @@
 -- Laws of a walk through the logs of a book: the entry numbered i, and its log at index `at`.
-use Prim.Native.Nat.{ℕ, zero, suc, ◌+◌, ◌-◌, ◌*◌, ◌≤◌, ◌<◌}
+use Prim.Native.Nat.{ℕ, zero, suc, ◌+◌, ◌-◌, ◌≤◌, ◌<◌}
 use native.Mathlib.Nat.{sub-zero}
 use native.Mathlib.Omega.{arith}
 use mathlib.Core.Bool.{Bool, true, false, ◌&&◌}
@@ -13,8 +13,8 @@ use Rattle.rules.specs.Bytes.{u16_at, u32_at, every, is_byte}
 use Rattle.rules.specs.Logs.{all, layout_ok, area}
 use Rattle.bookkeeping.specs.Layout.{call_byte, start, logs_from, logs_in}
 use Rattle.bookkeeping.specs.Book.{is_book}
-use Rattle.bookkeeping.specs.Fields.{head_ok, entry_ok, entries_ok, by_fields}
-use Rattle.bookkeeping.proofs.Fields.{Head, head-so, by-fields}
+use Rattle.bookkeeping.specs.Fields.{head_ok, entry_ok, entries_ok}
+use Rattle.bookkeeping.proofs.Fields.{head-so, by-fields}
 
 -- A number that is read behind an index.
 pub pair-behind : (l : List ℕ) (k j : ℕ) → u16_at (drop k l) j ≡ u16_at l (k + j)

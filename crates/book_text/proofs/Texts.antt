@@ -1,11 +1,11 @@
 -- Laws of the program's text in a lent buffer: numbers, a row, and the rows of a summary.
-use Prim.Native.Nat.{ℕ, zero, suc, ◌+◌, ◌-◌, ◌*◌, ◌/◌, ◌%◌, ◌≤◌, ◌<◌, ◌^◌}
-use native.Mathlib.Nat.{add-zero, add-suc, suc-add}
+use Prim.Native.Nat.{ℕ, zero, suc, ◌+◌, ◌-◌, ◌/◌, ◌%◌, ◌≤◌, ◌<◌, ◌^◌}
+use native.Mathlib.Nat.{add-zero}
 use native.Mathlib.Numerals.{add-one}
 use native.Mathlib.Omega.{arith}
 use mathlib.Core.Bool.{Bool, true, false, cond}
 use mathlib.Core.List.{List, [], ◌∷◌, ◌++◌, append_assoc, append-nil}
-use mathlib.Core.Path.{◌≡◌, refl, sym, ◌∙◌, ap, ap₂}
+use mathlib.Core.Path.{◌≡◌, refl, sym, ◌∙◌, ap}
 use borrow.Author.Tests.{le-leb, lt-leb, eq-eqb, ne_eqb}
 use lib.Dec.{leb}
 use lib.ListN.{length, get_or, take, length-append}
@@ -15,7 +15,7 @@ use Rattle.text.specs.Written.{Put, put, Appended, counted}
 use Rattle.text.proofs.Numerals.{digits, decimal-small, decimal-big}
 use Rattle.text.proofs.Writing.{then, was-put}
 use Rattle.wire.specs.Buffers.{with, Copied}
-use Rattle.bookkeeping.specs.Summary.{Class, positive, negative, suppressed, timed_out, deviating, other, class_at}
+use Rattle.bookkeeping.specs.Summary.{Class, negative, suppressed, timed_out, deviating, other, class_at}
 use Rattle.bookkeeping.specs.Said.{word, counter_line, lines_from}
 use Rattle.book_text.specs.Texts.{row_text, usage, Puts}
 

@@ -1,6 +1,5 @@
 -- The text of `udsbook` in a lent buffer.
 use Rattle.std.specs.Prelude.{ℕ, Bool, true, false, List, [], ◌∷◌, ◌++◌, ◌≡◌, get_or}
-use Prim.Native.String.{String}
 use Rattle.rules.specs.Lines.{ascii, decimal}
 use Rattle.text.specs.Written.{counted, Put}
 use Rattle.bookkeeping.specs.Said.{counter_line}

@@ -1,7 +1,7 @@
 -- What the door's numbers and slices ask, and when they ask nothing that document 01 has.
-use Rattle.std.specs.Prelude.{ℕ, ◌+◌, Bool, cond, ◌&&◌, ◌||◌, ◌≡◌, List, leb, eqb, length, take, drop}
+use Rattle.std.specs.Prelude.{ℕ, ◌+◌, Bool, cond, ◌&&◌, ◌||◌, List, leb, eqb, take, drop}
 use Rattle.std.proofs.Math.Option.{Option, none, some}
-use Rattle.rules.specs.Calls.{Field, given, alfid}
+use Rattle.rules.specs.Calls.{Field, given}
 use Rattle.rules.specs.Client.{Result, call}
 use Rattle.rules.specs.Logs.{Header, form_in, flag, uses_of, fields_ok, setting_of}
 use Rattle.rules.specs.Limited.{in_limit}

@@ -3,11 +3,10 @@
 use Prim.Native.Nat.{ℕ, ◌≤◌}
 use native.Mathlib.Omega.{arith}
 use mathlib.Core.Bool.{Bool, true}
-use mathlib.Core.Path.{◌≡◌, refl, sym, ◌∙◌, ap, subst, subst⁻¹}
+use mathlib.Core.Path.{◌≡◌, refl, ◌∙◌, ap, subst⁻¹}
 use mathlib.Core.List.{List, [], ◌∷◌}
 use lib.Dec.{eqb, leb}
 use lib.ListN.{length, take}
-use Rattle.rules.specs.Answers as rules
 use Rattle.rules.specs.Bytes.{every, is_byte}
 use Rattle.rules.specs.Calls.{Call, Field}
 use Rattle.rules.specs.Client.{Result, events_in, call}
@@ -20,7 +19,7 @@ use Rattle.rules.specs.Logs.{Header, flag, setting_of}
 use Rattle.rules.specs.Settings.{Setting, Lent}
 use Rattle.rules.specs.Writing.{Sayable}
 use Rattle.exchange.specs.Meaning.{answer_of}
-use Rattle.calls.specs.Meaning.{result_of, Called}
+use Rattle.calls.specs.Meaning.{Called}
 use Rattle.calls.specs.declared.Answered as client
 use Rattle.bench.specs.Promise.{Served, Taken, sends, decides, Roomy, at_once, bytes_in, lent_by, expected, Asks, InTime}
 use Rattle.bench.specs.Responder as bench

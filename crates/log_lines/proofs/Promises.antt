@@ -1,10 +1,10 @@
 -- The promises of a whole run.
-use Prim.Native.Nat.{ℕ, zero, suc, ◌+◌, ◌≤◌, ◌<◌, ◌^◌}
+use Prim.Native.Nat.{ℕ, zero, suc, ◌≤◌, ◌<◌}
 use native.Mathlib.Nat.{zero-add}
 use native.Mathlib.Omega.{arith}
-use mathlib.Core.Bool.{Bool, true, false, cond, ◌&&◌}
+use mathlib.Core.Bool.{Bool, true, false, ◌&&◌}
 use mathlib.Core.List.{List, [], ◌∷◌, ◌++◌, append_assoc, append-nil}
-use mathlib.Core.Logic.{◌⊎◌, inl, inr}
+use mathlib.Core.Logic.{inl, inr}
 use mathlib.Core.Path.{◌≡◌, refl, sym, ap, subst, ◌∙◌}
 use borrow.Author.Tests.{leb-true, leb-false, ltb-true, ltb-false, le-leb, lt-leb}
 use lib.Dec.{leb, ltb}
@@ -14,7 +14,7 @@ use Rattle.rules.specs.Bytes.{every, is_byte}
 use Rattle.rules.specs.Lines.{badlog}
 use Rattle.rules.proofs.Judging.{both}
 use Rattle.text.specs.Written.{put, Put}
-use Rattle.log_files.specs.Files.{size, lines_of}
+use Rattle.log_files.specs.Files.{lines_of}
 use Rattle.log_files.specs.Said.{cut_line, said_from}
 use Rattle.log_files.proofs.Files.{lines_none, lines_cut}
 use Rattle.log_files.proofs.Said.{said-none, said-cut}

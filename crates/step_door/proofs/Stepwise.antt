@@ -8,7 +8,7 @@ use mathlib.Core.List.{List, [], ◌∷◌, ◌++◌, map, append_assoc}
 use mathlib.Core.Option.{Option, none, some}
 use lib.Dec.{leb, ltb, eqb}
 use lib.Seq.{take_at, drop_at, drop-drop, length-take-le}
-use lib.ListN.{length, get_or, take, drop, replicate, length-replicate, length-drop}
+use lib.ListN.{length, take, drop, replicate, length-replicate, length-drop}
 use borrow.Author.Tests.{leb-true, le-leb, eqb-true, eqb-false, ne_eqb}
 use Rattle.rules.specs.After.{checked}
 use Rattle.rules.specs.Answers as answers
@@ -35,10 +35,6 @@ use Rattle.requests.specs.declared.Call.{Call}
 use Rattle.requests.specs.declared.Call.TheVariants as call
 use Rattle.checks.specs.Answered as checks
 use Rattle.calls.specs.Concluded.{Concluded}
-use Rattle.exchange.specs.Places.{Inside, InsideOutcome}
-use Rattle.exchange.specs.declared.types.Outcome.{Outcome}
-use Rattle.exchange.specs.declared.types.Outcome.TheVariants as outcome
-use Rattle.exchange.specs.declared.types.Place.{Place}
 use Rattle.exchange.specs.declared.types.State.{State}
 use Rattle.calls.specs.Meaning.{setting_of, lent_of, result_of, Called}
 use Rattle.calls.specs.declared.Ask.{Ask}
@@ -58,7 +54,7 @@ use Rattle.steps.proofs.Unique.{refused-event, refused-tick}
 use Rattle.door.specs.Door.{fields, is_limit, fits, asks_one, data_in, limit_for, limited_to}
 use Rattle.numbers.specs.Numbers.{values_of, numbers_of, Tells}
 use Rattle.numbers.proofs.Telling.{needs, long-enough}
-use Rattle.state_numbers.specs.Kept.{number, waits, nine, fifteen, header_in, sound, AskedIn, asking_in, engine_in, is_set, bit, Told}
+use Rattle.state_numbers.specs.Kept.{number, waits, nine, fifteen, header_in, AskedIn, engine_in, is_set, bit, Told}
 use Rattle.host.specs.Served.{InBytes}
 use Rattle.step_door.specs.Stepping as door
 use Rattle.host.proofs.Promises.{was-asked}

@@ -1,19 +1,18 @@
 -- A buffer of 163,840 bytes has room for every story.
-use Prim.Native.Nat.{ℕ, suc, ◌+◌, ◌*◌, ◌/◌, ◌≤◌, ◌<◌}
+use Prim.Native.Nat.{ℕ, ◌/◌, ◌≤◌, ◌<◌}
 use native.Mathlib.Omega.{arith}
 use mathlib.Core.Bool.{Bool, true, false, cond}
-use mathlib.Core.List.{List, [], ◌++◌}
-use mathlib.Core.Path.{◌≡◌, refl, sym, ◌∙◌, ap}
-use lib.Dec.{leb}
-use lib.ListN.{length, get_or, drop, length-append}
+use mathlib.Core.List.{List, []}
+use mathlib.Core.Path.{◌≡◌, refl, ◌∙◌, ap}
+use lib.ListN.{length, get_or, length-append}
 use borrow.Author.Tests.{le-leb, lt-leb}
 use native.Mathlib.Nat.{zero-add}
 use Rattle.rules.specs.Answers.{Outcome, positive, suppressed, negative, timeout, pending_limit, disconnected, transport, fault, refused}
-use Rattle.rules.specs.Client.{call, asked, entries_in}
+use Rattle.rules.specs.Client.{asked, entries_in}
 use Rattle.rules.specs.Events.{event_size}
 use Rattle.rules.specs.Exchange.{start}
 use Rattle.rules.specs.Calls.{request_of}
-use Rattle.rules.specs.Logs.{layout_ok, line_of, answer_of}
+use Rattle.rules.specs.Logs.{layout_ok, answer_of}
 use Rattle.exchange.proofs.Entries.{few-entries}
 use Rattle.calls.specs.Meaning.{is_refused}
 use Rattle.log_line.proofs.Longest.{line-fits}

@@ -1,9 +1,8 @@
 -- From what a call answers to the story of the log that asks it.
 use Prim.Native.Nat.{ℕ, ◌+◌, ◌≤◌}
 use mathlib.Core.Bool.{Bool, true, false, true≢false}
-use mathlib.Core.List.{List, [], ◌∷◌, ◌++◌}
+use mathlib.Core.List.{List, [], ◌++◌}
 use mathlib.Core.Path.{◌≡◌, refl, sym, ◌∙◌, ap, subst}
-use lib.Dec.{eqb}
 use native.Mathlib.Omega.{arith}
 use lib.ListN.{length, take, drop, replicate, length-take}
 use lib.Seq.{take_at}
@@ -14,7 +13,6 @@ use Rattle.rules.specs.Calls.{Field, given, sent, with_bit7, sid_of, request_of}
 use Rattle.rules.specs.Client.{Result, call, asked, events_in, refuse, answered}
 use Rattle.rules.specs.Events as Events
 use Rattle.rules.specs.Events.{within_limits}
-use Rattle.rules.specs.Lines as Lines
 use Rattle.rules.specs.Exchange as exchange
 use Rattle.rules.specs.Logs as logs
 use Rattle.rules.specs.Logs.{Header, header_of, flag, address_of, size_of, event_bytes, reply_bytes}

@@ -1,5 +1,5 @@
 -- `bench_line::put_hex` meets its contract: the digits of i bytes are written.
-use Prim.Native.Nat.{◌+◌, ◌-◌, ◌*◌}
+use Prim.Native.Nat.{◌+◌, ◌*◌}
 use native.Mathlib.Omega.{arith}
 use mathlib.Core.Path.{◌≡◌, refl}
 use lib.ListN.{set, length-set}

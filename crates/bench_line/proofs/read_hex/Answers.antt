@@ -1,14 +1,14 @@
 -- `bench_line::read_hex` meets its contract: the bytes of i pairs stand at the front.
-use Prim.Native.Nat.{◌+◌, ◌-◌, ◌*◌, ◌<◌}
+use Prim.Native.Nat.{◌+◌, ◌*◌, ◌<◌}
 use native.Mathlib.Omega.{arith}
 use mathlib.Core.Path.{refl}
 use lib.ListN.{length, length-set}
-use Rattle.bench.specs.Talk.{is_hex_digit, nibble}
+use Rattle.bench.specs.Talk.{is_hex_digit}
 use Rattle.bench_line.proofs.Reading.{each, pair-more, pairs-done}
 use Rattle.bench_line.proofs.read_hex.Goals as goal
 
 pub loop-i-init : goal.loop-i-init
-loop-i-init c = record { inside = omega arith; half = refl; shape_of-request = refl; read = refl }
+loop-i-init c = record { inside = omega arith; half = refl; same_length = refl; read = refl }
 
 pub overflow_mul-i : goal.overflow_mul-i
 overflow_mul-i c = omega arith
@@ -62,7 +62,7 @@ loop-i-preserved c =
     record {
       inside = omega arith;
       half = v.half;
-      shape_of-request = simp length-set v.same_length;
+      same_length = simp length-set v.same_length;
       read = pair-more d c.loop-i.request c.loop-i.i (omega (arith, v.half, c.loop-i-test.true)) here v.read (c.nibble.result * 16 + c.nibble-in-loop-i.result) (λ j. first j * 16 + second j);
     }
 

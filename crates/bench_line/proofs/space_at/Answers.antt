@@ -1,5 +1,4 @@
 -- `bench_line::space_at` meets its contract.
-use Prim.Native.Nat.{◌-◌}
 use native.Mathlib.Omega.{arith}
 use Rattle.bench_line.proofs.Reading.{space-here, no-space-yet, no-space}
 use Rattle.bench_line.proofs.space_at.Goals as goal

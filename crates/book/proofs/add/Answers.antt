@@ -10,8 +10,8 @@ use Rattle.wire.specs.Buffers.{with}
 use borrow.Author.Tests.{not-true, not-false}
 use lib.ListN.{length, take}
 use mathlib.Core.Path.{◌≡◌, refl, sym, ◌∙◌, ap, subst}
-use mathlib.Core.List.{List, ◌∷◌, ◌++◌}
-use Prim.Native.Nat.{ℕ, ◌+◌}
+use mathlib.Core.List.{List, [], ◌∷◌, ◌++◌}
+use Prim.Native.Nat.{ℕ}
 use Rattle.book.proofs.add.Goals as goal
 
 pub returns-then-not-is_book : goal.returns-then-not-is_book

@@ -8,7 +8,7 @@ use Rattle.bookkeeping.specs.Layout.{start}
 use lib.ListN.{length}
 use mathlib.Core.Path.{◌≡◌, sym, ◌∙◌, ap, ap₂}
 use mathlib.Core.List.{List}
-use Prim.Native.Nat.{ℕ, ◌-◌, ◌≤◌}
+use Prim.Native.Nat.{ℕ, ◌≤◌}
 use Rattle.book.proofs.count_of.Goals as goal
 use Rattle.book.proofs.count_of.Goals.{then-call_in-call, else-call_in-call}
 

@@ -13,9 +13,9 @@ use borrow.Author.Tests.{not-true, not-false}
 use lib.ListN.{length}
 use mathlib.Core.Path.{◌≡◌, sym, ◌∙◌, ap, ap₂}
 use mathlib.Core.List.{List}
-use Prim.Native.Nat.{ℕ, ◌+◌, ◌-◌, ◌≤◌}
+use Prim.Native.Nat.{ℕ, ◌+◌, ◌≤◌}
 use Rattle.book.proofs.find.Goals as goal
-use Rattle.book.proofs.find.Goals.{then-call_in-call, else-call_in-call}
+use Rattle.book.proofs.find.Goals.{then-call_in-call+else-left-eq0, else-call_in-call}
 
 pub returns-then-not-is_book : goal.returns-then-not-is_book
 returns-then-not-is_book c =
@@ -97,7 +97,7 @@ loop-i-preserved c =
     (l.at + length log) rest ≡ stands_at x.call x.k (start (u16_at b 4)) (logs_in b)) in
     let on : Goal c.if-call_in-call.left =
     elim c.if-call_in-call.branch [
-      | then-call_in-call w ↦ subst⁻¹ Goal w.left-is (counted-off b n l.i l.at more log is x.call l.left l.invariant.2 l.invariant.3
+      | then-call_in-call+else-left-eq0 w ↦ subst⁻¹ Goal w.left-is (counted-off b n l.i l.at more log is x.call l.left l.invariant.2 l.invariant.3
           (sym c.call_in.ensures ∙ w.if-call_in-call.true) (omega (arith, w.if-left-eq0.false)))
       | else-call_in-call w ↦ subst⁻¹ Goal w.left-is (passed-by b n l.i l.at more log is x.call l.left l.invariant.2 l.invariant.3
           (λ e. w.if-call_in-call.false (c.call_in.ensures ∙ e)))

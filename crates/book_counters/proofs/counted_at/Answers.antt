@@ -6,7 +6,6 @@ use Rattle.rules.specs.Logs.{header_of, reply_bytes}
 use Rattle.rules.specs.Answers as rules
 use mathlib.Core.Path.{subst, ◌∙◌, ap, ap₂}
 use Prim.Native.Nat.{ℕ, ◌+◌, ◌*◌}
-use borrow.Author.Rules.{rules}
 use Rattle.book_counters.proofs.counted_at.Goals as goal
 
 pub returns-in-BadLog : goal.returns-in-BadLog

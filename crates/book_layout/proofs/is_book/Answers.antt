@@ -5,8 +5,7 @@ use Rattle.bookkeeping.specs.Layout.{start}
 use Rattle.exchange.proofs.Entries.{are-bytes}
 use borrow.Author.Tests.{not-true, not-false}
 use mathlib.Core.Path.{sym, ◌∙◌, ap, ap₂}
-use mathlib.Core.Bool.{true, false}
-use Prim.Native.Nat.{ℕ, ◌+◌, ◌-◌}
+use Prim.Native.Nat.{ℕ, ◌+◌}
 use Rattle.book_layout.proofs.is_book.Goals as goal
 
 pub returns-then-not-header_ok : goal.returns-then-not-header_ok

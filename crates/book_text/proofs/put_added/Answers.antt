@@ -9,7 +9,7 @@ use Rattle.rules.specs.Lines.{ascii, decimal}
 use lib.ListN.{length, get_or}
 use mathlib.Core.Path.{refl}
 use mathlib.Core.List.{[], ◌∷◌, ◌++◌, append_assoc}
-use Prim.Native.Nat.{◌+◌, ◌≤◌, ◌<◌}
+use Prim.Native.Nat.{◌≤◌, ◌<◌}
 use borrow.Author.Tests.{le-leb, lt-leb}
 use Rattle.book_text.proofs.put_added.Goals as goal
 
@@ -31,8 +31,8 @@ put_byte-c-requires c =
     let f = short-number in
     let p = was-put (counted (ascii "added") e.call) x.text.now 0 (omega (arith, c.if-text-lt-SHORT.false, d)) c.put_counted-a.ensures in
     let q = was-put (counted [] e.number) c.put_counted-a.new.line c.put_counted-a.result (omega
-    (arith, c.if-text-lt-SHORT.false, c.text-1.given, p.next, d, f)) c.put_counted-b.ensures in
-    omega (arith, p.next, q.next, d, f, c.if-text-lt-SHORT.false, c.text-1.given, c.text-2-1.given)
+    (arith, c.if-text-lt-SHORT.false, p.next, d, f)) c.put_counted-b.ensures in
+    omega (arith, p.next, q.next, d, f, c.if-text-lt-SHORT.false)
 
 pub put_counter-requires : goal.put_counter-requires
 put_counter-requires c =
@@ -44,7 +44,7 @@ put_counter-requires c =
     let f = short-number in
     let p = was-put (counted (ascii "added") e.call) x.text.now 0 (omega (arith, c.if-text-lt-SHORT.false, d)) c.put_counted-a.ensures in
     let q = was-put (counted [] e.number) c.put_counted-a.new.line c.put_counted-a.result (omega
-    (arith, c.if-text-lt-SHORT.false, c.text-1.given, p.next, d, f)) c.put_counted-b.ensures in
+    (arith, c.if-text-lt-SHORT.false, p.next, d, f)) c.put_counted-b.ensures in
     let there : 0 < c.number_at.result → e.place < 4176 = λ h. omega (
       arith,
       c.if-summary-gt-COUNTERS.false,
@@ -60,9 +60,6 @@ put_counter-requires c =
         d,
         f,
         c.if-text-lt-SHORT.false,
-        c.text-1.given,
-        c.text-2-1.given,
-        c.text-3-1.given,
       ),
     )
 
@@ -78,7 +75,7 @@ returns c =
     let c2 = counted [] e.number in
     let p = was-put c1 x.text.now 0 (omega (arith, c.if-text-lt-SHORT.false, d)) c.put_counted-a.ensures in
     let q = was-put c2 c.put_counted-a.new.line c.put_counted-a.result (omega
-    (arith, c.if-text-lt-SHORT.false, c.text-1.given, p.next, d, f)) c.put_counted-b.ensures in
+    (arith, c.if-text-lt-SHORT.false, p.next, d, f)) c.put_counted-b.ensures in
     let line = counter_line e.place (get_or x.summary.now e.place 0) in
     let r : Put c.put_byte-c.new.text c.put_byte-c.result line c.put_counter.new.text
     c.put_counter.result = rw c.number_at.ensures at c.put_counter.ensures.put in

@@ -2,7 +2,6 @@
 use native.Mathlib.Omega.{arith}
 use Rattle.book_text.proofs.Texts.{one-digit, two_digits}
 use Rattle.text.proofs.Writing.{then}
-use Prim.Native.Nat.{◌-◌}
 use Rattle.book_text.proofs.put_call.Goals as goal
 
 pub put_byte-a-requires : goal.put_byte-a-requires
@@ -10,7 +9,7 @@ put_byte-a-requires c = omega (arith, c.requires.1)
 
 pub put_byte-requires : goal.put_byte-requires
 put_byte-requires c =
-    omega (arith, c.requires.1, c.put_byte-a.ensures.next, c.text-1.given)
+    omega (arith, c.requires.1, c.put_byte-a.ensures.next)
 
 pub returns-then-call-gt9 : goal.returns-then-call-gt9
 returns-then-call-gt9 c =

@@ -17,7 +17,7 @@ put_byte-requires c =
     let x = c.args in
     let word = counted (ascii "refused") x.number in
     let put = was-put word x.text.now 0 (omega (arith, c.if-text-lt-SHORT.false, five-digits x.number (omega arith))) c.put_counted-n.ensures in
-    omega (arith, put.next, c.if-text-lt-SHORT.false, c.text-1.given, five-digits x.number (omega arith))
+    omega (arith, put.next, c.if-text-lt-SHORT.false, five-digits x.number (omega arith))
 
 pub returns : goal.returns
 returns c =

@@ -11,18 +11,18 @@ put_byte-requires c =
     let x = c.args in
     let end = before-newline x.text.now c.put_call-a.new.text c.put_counted-b.new.line c.put_counted-b.new.line
     x.word.now x.at x.call x.number c.put_call-a.result c.put_counted-b.result 0 c.requires.0 (omega arith)
-    c.requires.1 c.put_call-a.ensures (omega (arith, c.text-1.given)) c.put_counted-b.ensures in
-    omega (arith, end, c.requires.1, c.text-1.given, c.text-2-1.given)
+    c.requires.1 c.put_call-a.ensures (omega arith) c.put_counted-b.ensures in
+    omega (arith, end, c.requires.1)
 
 pub returns : goal.returns
 returns c =
     let x = c.args in
     let end = before-newline x.text.now c.put_call-a.new.text c.put_counted-b.new.line c.put_counted-b.new.line
     x.word.now x.at x.call x.number c.put_call-a.result c.put_counted-b.result 0 c.requires.0 (omega arith)
-    c.requires.1 c.put_call-a.ensures (omega (arith, c.text-1.given)) c.put_counted-b.ensures in (
-      row x.text.now c.put_call-a.new.text c.put_counted-b.new.line c.put_byte.new.text x.word.now x.at
+    c.requires.1 c.put_call-a.ensures (omega arith) c.put_counted-b.ensures in record {
+      put = row x.text.now c.put_call-a.new.text c.put_counted-b.new.line c.put_byte.new.text x.word.now x.at
           x.call x.number c.put_call-a.result c.put_counted-b.result c.put_byte.result c.requires.0
-          (omega arith) c.requires.1 c.put_call-a.ensures (omega (arith, c.text-1.given)) c.put_counted-b.ensures (omega
-          (arith, c.text-1.given, c.text-2-1.given)) c.put_byte.ensures,
-      omega (arith, end, c.put_byte.ensures.next),
-    )
+          (omega arith) c.requires.1 c.put_call-a.ensures (omega arith) c.put_counted-b.ensures (omega
+          (arith)) c.put_byte.ensures;
+      upper_bound = omega (arith, end, c.put_byte.ensures.next);
+    }

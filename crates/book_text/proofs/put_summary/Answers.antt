@@ -7,7 +7,6 @@ use Rattle.bookkeeping.specs.Said.{lines_from}
 use lib.Seq.{take_all}
 use lib.ListN.{length}
 use mathlib.Core.Path.{refl, ap}
-use Prim.Native.Nat.{◌-◌}
 use Rattle.book_text.proofs.put_summary.Goals as goal
 
 pub returns-then-text-lt-LONGEST : goal.returns-then-text-lt-LONGEST
@@ -44,7 +43,7 @@ loop-i-preserved c =
     let put = then (omega (arith, l.invariant.2, c.if-summary-gt-COUNTERS.false, c.if-text-lt-LONGEST.false, c.loop-i-test.true)) l.invariant.3
     c.put_counter-n.ensures.put in (
       omega arith,
-      omega (arith, l.invariant.1, c.text-1.given),
+      omega (arith, l.invariant.1),
       omega (arith, l.invariant.2, c.put_counter-n.ensures.upper_bound),
       rw (← (line-more x.summary.now l.i c.loop-i-test.true)) put,
     )

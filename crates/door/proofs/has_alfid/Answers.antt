@@ -17,5 +17,5 @@ returns-in-12 c = rw c.in-12.is
 pub returns-in_default : goal.returns-in_default
 returns-in_default c =
     let call = c.args.call in
-    let rest = c.in_default.rest in
+    let rest = c.in_default.in_default-own.rest in
     rw (ne_eqb call 5 rest.0.0.0.1, ne_eqb call 6 rest.0.0.1, ne_eqb call 11 rest.0.1, ne_eqb call 12 rest.1)

@@ -1,5 +1,4 @@
 -- `lines` meets its contract: what stands and what is behind stay the lines of the whole.
-use Prim.Native.Nat.{◌-◌}
 use native.Mathlib.Omega.{arith}
 use Rattle.log_lines.proofs.Batching.{held_first, held_on, batched, went_on}
 use Rattle.log_lines.proofs.lines.Goals as goal

@@ -3,11 +3,11 @@ use Rattle.state_numbers.proofs.Keeping.{no-such-call, asks-in, asks-none-in}
 use Rattle.state_numbers.proofs.ask_in.Goals as goal
 
 pub returns-then-call-gt15 : goal.returns-then-call-gt15
-returns-then-call-gt15 c = no-such-call c.args.t1 c.byte-call.ensures c.if-call-gt15.true
+returns-then-call-gt15 c = no-such-call c.args.state c.byte-call.ensures c.if-call-gt15.true
 
 pub returns-in-Ask : goal.returns-in-Ask
 returns-in-Ask c =
-    asks-in c.args.t1 c.byte-call.ensures c.if-call-gt15.false (rw (
+    asks-in c.args.state c.byte-call.ensures c.if-call-gt15.false (rw (
       c.byte-call.ensures,
       c.byte.ensures,
       c.two_bytes.ensures,
@@ -21,7 +21,7 @@ returns-in-Ask c =
 
 pub returns-in-Unsound : goal.returns-in-Unsound
 returns-in-Unsound c =
-    asks-none-in c.args.t1 c.byte-call.ensures c.if-call-gt15.false (rw (
+    asks-none-in c.args.state c.byte-call.ensures c.if-call-gt15.false (rw (
       c.byte-call.ensures,
       c.byte.ensures,
       c.two_bytes.ensures,

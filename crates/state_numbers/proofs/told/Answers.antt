@@ -5,8 +5,8 @@ use Rattle.state_numbers.proofs.told.Goals as goal
 
 pub returns-in-Waiting : goal.returns-in-Waiting
 returns-in-Waiting c =
-    told_in c.args.engine c.args.t2 _ c.in-Waiting.is (rw (c.bit.ensures))
+    told_in c.args.engine c.args.a _ c.in-Waiting.is (rw (c.bit.ensures))
 
 pub returns-in-Settled : goal.returns-in-Settled
 returns-in-Settled c =
-    told_in c.args.engine c.args.t2 _ c.in-Settled.is (c.numbers-n.result, c.numbers-n.ensures, refl)
+    told_in c.args.engine c.args.a _ c.in-Settled.is (c.numbers-n.result, c.numbers-n.ensures, refl)

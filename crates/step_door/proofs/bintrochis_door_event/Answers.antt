@@ -3,7 +3,7 @@ use mathlib.Core.Path.{subst}
 use Rattle.steps.specs.declared.Engine.{Engine}
 use Rattle.steps.specs.declared.Stepped.{Stepped}
 use Rattle.steps.specs.Stepping.{Hands}
-use Rattle.state_numbers.specs.Kept.{AskedIn}
+use Rattle.state_numbers.specs.Kept.{AskedIn, Told}
 use Rattle.step_door.specs.Stepping.{address_in, size_in, entry}
 use Rattle.step_door.proofs.Ways.{was_settled, asked-nothing, step-refused, step-taken}
 use Rattle.step_door.proofs.bintrochis_door_event.Goals as goal
@@ -40,4 +40,4 @@ returns c =
     let l = c.args.state.now in
     step-taken l hands c.if-s-ne-WAITING.false (subst (AskedIn l) c.in-Ask.is c.ask_in.ensures)
     (rw (c.engine_in.ensures, c.part-address.ensures, c.part-size.ensures, c.byte-address_width.ensures, c.byte.ensures) at c.event-stepped.ensures) c.if-refusal-ne0.false
-    (rw c.asking.ensures at c.told.ensures)
+    (let y = c.event-stepped.result in subst (λ kept. Told y.engine kept y.engine.phase c.told.result) c.asking.ensures c.told.ensures)

@@ -4,7 +4,7 @@ use mathlib.Core.Path.{◌≡◌, subst}
 use Rattle.steps.specs.declared.Engine.{Engine}
 use Rattle.steps.specs.declared.Stepped.{Stepped}
 use Rattle.steps.specs.Stepping.{tick_of}
-use Rattle.state_numbers.specs.Kept.{AskedIn}
+use Rattle.state_numbers.specs.Kept.{AskedIn, Told}
 use Rattle.step_door.proofs.Ways.{was_settled, asked-nothing, step-refused, step-taken}
 use Rattle.tick_door.proofs.bintrochis_door_tick.Goals as goal
 
@@ -25,10 +25,12 @@ pub returns-then-refusal-ne0 : goal.returns-then-refusal-ne0
 returns-then-refusal-ne0 c =
     let a = c.args in
     step-refused a.state.now (ticks a.time) c.if-s-ne-WAITING.false (subst (AskedIn a.state.now) c.in-Ask.is c.ask_in.ensures)
-    (rw c.engine_in.ensures at c.tick-stepped.ensures) c.if-refusal-ne0.true
+    (subst (λ e. ticks a.time e c.tick-stepped.result) c.engine_in.ensures c.tick-stepped.ensures) c.if-refusal-ne0.true
 
 pub returns : goal.returns
 returns c =
     let a = c.args in
+    let y = c.tick-stepped.result in
     step-taken a.state.now (ticks a.time) c.if-s-ne-WAITING.false (subst (AskedIn a.state.now) c.in-Ask.is c.ask_in.ensures)
-    (rw c.engine_in.ensures at c.tick-stepped.ensures) c.if-refusal-ne0.false (rw c.asking.ensures at c.told.ensures)
+    (subst (λ e. ticks a.time e y) c.engine_in.ensures c.tick-stepped.ensures) c.if-refusal-ne0.false
+    (subst (λ kept. Told y.engine kept y.engine.phase c.told.result) c.asking.ensures c.told.ensures)

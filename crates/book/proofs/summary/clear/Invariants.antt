@@ -1,5 +1,6 @@
 -- `clear` meets its contract: the counters before i are 0.
 use Prim.Native.Nat.{◌-◌, ◌≤◌}
+use mathlib.Core.List.{[]}
 use mathlib.Core.Path.{◌≡◌}
 use lib.ListN.{length, take}
 use Rattle.bookkeeping.specs.Summary.{tally}

@@ -14,9 +14,9 @@ use Rattle.rules.specs.Bytes.{every}
 use lib.ListN.{length, take, drop, length-take}
 use borrow.Author.Tests.{not-true, not-false, eq-eqb, ne_eqb}
 use mathlib.Core.Path.{◌≡◌, refl, sym, ◌∙◌, ap, ap₂}
-use mathlib.Core.List.{List}
-use mathlib.Core.Bool.{Bool, true, cond}
-use Prim.Native.Nat.{ℕ, ◌-◌, ◌≤◌}
+use mathlib.Core.List.{List, []}
+use mathlib.Core.Bool.{Bool, cond}
+use Prim.Native.Nat.{ℕ, ◌≤◌}
 use Rattle.book.proofs.summary.summarize.Goals as goal
 
 pub returns-then-not-is_book : goal.returns-then-not-is_book
@@ -97,7 +97,7 @@ loop-i-preserved c =
     l.summary log) l.summary) sound.0 in (
       omega arith,
       omega (arith, l.invariant.1, short),
-      omega (arith, l.invariant.2, c.summary-in-loop-i-1.given),
+      omega (arith, l.invariant.2),
       sound.1,
       ap (λ (s : List ℕ). raised_all s rest) one ∙ ap (raised_all l.summary) (sym this) ∙ l.invariant.4,
     )

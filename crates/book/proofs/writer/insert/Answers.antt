@@ -32,7 +32,7 @@ move_on-requires c =
     let started : c.start-logs_at.result ≡ start (length logs) = c.start-logs_at.ensures ∙ ap start counted in
     -- The book is its directory and its logs.
     let long : c.args.n ≡ c.start-logs_at.result + length (joined logs) = book-long c.args.book.now c.args.n c.requires.0 reach ∙ ap (λ (k : ℕ). k + length (joined logs)) (sym started) in
-    omega (arith, long, c.requires.2, c.book-1.given)
+    omega (arith, long, c.requires.2)
 
 pub put_offsets-requires : goal.put_offsets-requires
 put_offsets-requires c =
@@ -51,9 +51,6 @@ put_offsets-requires c =
         counted,
         long,
         c.requires.2,
-        c.book-1.given,
-        c.book-2-1.given,
-        c.book-3-1.given,
       ),
     )
 

@@ -2,7 +2,7 @@
 use Rattle.book.proofs.Inserting.{moving}
 use lib.ListN.{length}
 use mathlib.Core.Path.{◌≡◌}
-use Prim.Native.Nat.{◌-◌, ◌≤◌}
+use Prim.Native.Nat.{◌≤◌}
 use Rattle.book.proofs.writer.move_on.Given as goal
 
 abbrev pub invariant-loop-i : goal.invariant-loop-i

@@ -7,7 +7,7 @@ use Rattle.rules.specs.Bytes.{four}
 use native.Mathlib.Nat.{sub-zero}
 use mathlib.Core.Path.{◌≡◌, refl, sym, ◌∙◌, ap₂}
 use mathlib.Core.List.{List}
-use Prim.Native.Nat.{ℕ, ◌+◌, ◌-◌}
+use Prim.Native.Nat.{ℕ, ◌+◌}
 use Rattle.book.proofs.writer.put_offsets.Goals as goal
 
 pub loop-i-init : goal.loop-i-init
@@ -15,14 +15,14 @@ loop-i-init c = (omega arith, omega arith, refl, rw sub-zero refl)
 
 pub overflow_cast-at : goal.overflow_cast-at
 overflow_cast-at c =
-    omega (arith, c.loop.invariant.0, c.loop.invariant.1, c.requires)
+    omega (arith, c.loop-i.invariant.0, c.loop-i.invariant.1, c.requires)
 
 pub overflow_add-start : goal.overflow_add-start
 overflow_add-start c = omega arith
 
 pub overflow_add-at : goal.overflow_add-at
 overflow_add-at c =
-    omega (arith, c.loop.invariant.0, c.loop.invariant.1, c.log_size-size.ensures.1, c.requires)
+    omega (arith, c.loop-i.invariant.0, c.loop-i.invariant.1, c.log_size-size.ensures.1, c.requires)
 
 pub overflow_add-i : goal.overflow_add-i
 overflow_add-i c = omega arith
@@ -32,15 +32,15 @@ loop-i-smaller c = omega arith
 
 pub loop-i-preserved : goal.loop-i-preserved
 loop-i-preserved c =
-    let l = c.loop in
+    let l = c.loop-i in
     let n = c.args.count in
     let offset : c.copy_into.new.buffer ≡ with l.book (start l.i + 4) (four l.at) = rw
     (c.four_bytes-offset.ensures, c.start.ensures) at c.copy_into.ensures.buffer in (
       omega arith,
       omega (arith, l.invariant.1, c.log_size-size.ensures.1),
-      omega (arith, c.book-1.given, l.invariant.2),
+      omega (arith, l.invariant.2),
       ap₂ (λ (m : List ℕ) (s : ℕ). to_come m n (l.i + 1) (l.at + s)) offset c.log_size-size.ensures.0 ∙ one-offset l.book n l.i l.at
-          c.loop-test.true (omega (arith, c.requires.2, l.invariant.2)) ∙ l.invariant.3,
+          c.loop-i-test.true (omega (arith, c.requires.2, l.invariant.2)) ∙ l.invariant.3,
     )
 
 pub shape_of-book : goal.shape_of-book
