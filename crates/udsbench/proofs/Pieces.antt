@@ -1,12 +1,12 @@
 -- An input that comes in any pieces is answered as `output` of `bench` says. What is kept of a line that is too long is as little a request as the line.
-use Prim.Native.Nat.{ℕ, suc, ◌+◌, ◌-◌, ◌*◌, ◌%◌, ◌≤◌, ◌<◌, min}
+use Prim.Native.Nat.{ℕ, suc, ◌+◌, ◌-◌, ◌%◌, ◌≤◌, min}
 use native.Mathlib.Omega.{arith}
-use mathlib.Core.Bool.{Bool, true, false, cond, ◌&&◌, false≢true}
-use mathlib.Core.Path.{◌≡◌, refl, sym, ◌∙◌, ap, subst}
+use mathlib.Core.Bool.{Bool, true, false, cond}
+use mathlib.Core.Path.{◌≡◌, refl, sym, ◌∙◌, ap}
 use mathlib.Core.List.{List, [], ◌∷◌, ◌++◌, append_assoc, append-nil}
-use borrow.Author.Tests.{leb-true, leb-false, lt-ltb}
+use borrow.Author.Tests.{leb-true, leb-false}
 use lib.Dec.{leb, eqb}
-use lib.ListN.{length, get_or, take, drop, length-take, length-drop, length-append}
+use lib.ListN.{length, get_or, take, length-take, length-drop}
 use lib.Seq.{take_all, take-take, take-append-le}
 use Rattle.rules.specs.Bytes.{every}
 use Rattle.rules.specs.Lines.{ascii}

@@ -1,7 +1,7 @@
 -- An input that comes piece by piece: the store as it stands, and what has come of a line. What is said of it is `output` of `bench`, however it is cut.
 use Rattle.std.specs.Prelude.{ℕ, ◌≤◌, cond, true, ◌≡◌, List, [], ◌∷◌, ◌++◌, eqb, length, take}
 use Rattle.bench.specs.Stores.{store_ok}
-use Rattle.bench.specs.Talk.{Talked, talk, output}
+use Rattle.bench.specs.Talk.{talk, output}
 use Rattle.udsbench.specs.declared.Input.{Input}
 use Rattle.udsbench.specs.declared.Input.TheVariants.{More, End}
 use Rattle.udsbench.specs.declared.Loaded.{Loaded}

@@ -6,8 +6,8 @@ use Rattle.udsbench.specs.Hearing.{bench, hearing, Heard}
 use Rattle.udsbench.proofs.hear.Given as goal
 
 abbrev pub invariant-loop-i : goal.invariant-loop-i
-invariant-loop-i l =
+invariant-loop-i g l =
     (l.i ≤ length l.input) × Heard (hearing (bench l.initial.store (take l.len l.initial.kept)) (take l.i l.input)) l.store l.kept l.n × (length l.store ≡ length l.initial.store)
 
 abbrev pub decreases-loop-i : goal.decreases-loop-i
-decreases-loop-i l = length l.input - l.i
+decreases-loop-i g l = length l.input - l.i

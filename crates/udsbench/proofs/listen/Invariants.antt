@@ -5,7 +5,7 @@ use lib.ListN.{length}
 use Rattle.udsbench.proofs.listen.Given as goal
 
 abbrev pub invariant-loop-turns : goal.invariant-loop-turns
-invariant-loop-turns l = (l.len ≤ 8197) × (length l.kept ≡ 8197) × (length l.store ≡ length l.initial.store)
+invariant-loop-turns g l = (l.len ≤ 8197) × (length l.kept ≡ 8197) × (length l.store ≡ length l.initial.store)
 
 abbrev pub decreases-loop-turns : goal.decreases-loop-turns
-decreases-loop-turns l = l.turns
+decreases-loop-turns g l = l.turns
