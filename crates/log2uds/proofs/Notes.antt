@@ -2,7 +2,7 @@
 use Prim.Native.Nat.{ℕ, zero, suc, ◌+◌, ◌/◌, ◌%◌, ◌≤◌, ◌<◌}
 use native.Mathlib.Numerals.{add-one}
 use native.Mathlib.Omega.{arith}
-use mathlib.Core.Bool.{Bool, true, false, cond, not, ◌&&◌}
+use mathlib.Core.Bool.{Bool, true, false, cond, not}
 use mathlib.Core.List.{List, [], ◌∷◌, ◌++◌, append_assoc, append-nil}
 use mathlib.Core.Path.{◌≡◌, refl, sym, ◌∙◌, ap}
 use lib.Dec.{eqb, ltb}
@@ -13,7 +13,7 @@ use Rattle.rules.specs.Bytes.{every}
 use Rattle.rules.proofs.Judging.{both}
 use Rattle.rules.specs.Lines.{ascii, digit, decimal_to, decimal, hex, spaced}
 use Rattle.text.specs.Written.{hex_behind, counted, item}
-use Rattle.importing.specs.Import.{Item, request, reply, dropped, next}
+use Rattle.importing.specs.Import.{request, reply, dropped, next}
 use Rattle.importing.specs.Promises.{line_of, lines_from}
 use Rattle.log2uds.specs.Streams.{is_reply, kept, noted, others, Noted}
 

@@ -1,8 +1,8 @@
 -- Texts at the front of a buffer, and behind what stands there.
 use Prim.Native.Nat.{ℕ, ◌+◌, ◌≤◌, ◌<◌, ◌^◌}
 use native.Mathlib.Omega.{arith}
-use mathlib.Core.List.{List, [], ◌∷◌, ◌++◌}
-use mathlib.Core.Path.{◌≡◌, refl, sym, ◌∙◌, ap}
+use mathlib.Core.List.{List, [], ◌++◌}
+use mathlib.Core.Path.{◌≡◌, sym, ◌∙◌, ap}
 use lib.ListN.{length, take, drop, length-append, length-take}
 use lib.Seq.{take_at, length-take-le}
 use Rattle.rules.specs.Lines.{ascii, decimal}

@@ -30,7 +30,7 @@ pub record Ends (room ask answer : ℕ) (ended : Bool) (r : Outcome) (out log : 
   pub finished : Finished (written room (imported ask answer text)) r out log
 
 -- `log2uds REQUEST REPLY`: there is a text whose lines, or whose refusal, stand at the front of one buffer, and how many `dropped` lines were left
--- out, if any, at the front of the other. (That it is the text on standard input, no contract can say: what a read gives is not known.)
+-- out, if any, at the front of the other.
 pub record Lines (ask answer : ℕ) (ended : Bool) (n : ℕ) (out : List ℕ) (m : ℕ) (said : List ℕ) : Type 0 where
   pub text : List ℕ
   pub settled : Settled ask answer ended text

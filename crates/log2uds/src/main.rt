@@ -4,6 +4,7 @@
 #![tactic(auto)]
 
 ghost use Rattle.std.specs.Prelude.{◌+◌, ◌-◌, ◌≤◌, ◌<◌, cond, true, false, not, ◌||◌, ◌∷◌, ◌++◌, [], ◌≡◌, IfOk, eqb, length, take, drop};
+ghost use Rattle.std.specs.Io.KnownBytes.{Consumes};
 ghost use Rattle.imports.specs.Held.{stream_of, written_of};
 ghost use Rattle.log2uds.specs.Streams.{is_reply, noted, shown, left_in, reported, log_shown, log_said};
 ghost use Rattle.log2uds.specs.Runs.{Turned, Ends, Lines, Log};
@@ -182,9 +183,10 @@ fn read_more<R: Read>(
     out: &mut [u8],
     log: &mut [u8; LOG_ROOM],
 ) -> io::Result<Turn>
-    ensures { IfOk result (λ turn. Turned (length out.old) ask answer
+    ensures { IfOk result (λ turn. (t : Turned (length out.old) ask answer
         (stream_of s asked.old answered.old out.old log.old)
-        (stream_of turn.stream asked.new answered.new out.new log.new) turn.ended) }
+        (stream_of turn.stream asked.new answered.new out.new log.new) turn.ended) ×
+        Consumes (R.remaining text.old) (R.remaining text.new) t.came.text) }
 {
     let mut chunk = [0u8; 65536];
     let n = read_full(text, &mut chunk)?;
@@ -251,7 +253,8 @@ fn import<R: Read>(
     out: &mut [u8],
     log: &mut [u8; LOG_ROOM],
 ) -> io::Result<Whole>
-    ensures { IfOk result (λ whole. Ends (length out.old) ask answer whole.ended whole.outcome out.new log.new) }
+    ensures { IfOk result (λ whole. (e : Ends (length out.old) ask answer whole.ended whole.outcome out.new log.new) ×
+        Consumes (R.remaining text.old) (R.remaining text.new) e.text) }
 {
     let mut s = imports::begin();
     let mut ended = false;
@@ -290,7 +293,8 @@ fn import_lines<R: Read>(
     said: &mut [u8],
 ) -> io::Result<Imported>
     requires { (length out.old ≡ 272410) × (60 ≤ length said.old) }
-    ensures { IfOk result (λ r. Lines ask answer r.ended r.out out.new r.said said.new) }
+    ensures { IfOk result (λ r. (l : Lines ask answer r.ended r.out out.new r.said said.new) ×
+        Consumes (R.remaining text.old) (R.remaining text.new) l.text) }
 {
     let whole = import(text, ask, answer, asked, answered, out, log)?;
     let outcome = whole.outcome;
@@ -315,7 +319,8 @@ fn import_log<R: Read>(
     said: &mut [u8],
 ) -> io::Result<Imported>
     requires { (length out.old ≡ 272410) × (272470 ≤ length said.old) }
-    ensures { IfOk result (λ r. Log ask answer call.now r.ended r.out whole.new r.said said.new) }
+    ensures { IfOk result (λ r. (l : Log ask answer call.now r.ended r.out whole.new r.said said.new) ×
+        Consumes (R.remaining text.old) (R.remaining text.new) l.text) }
 {
     let imported = import(text, ask, answer, asked, answered, out, log)?;
     let outcome = imported.outcome;

@@ -8,3 +8,7 @@ on_ok (Err e) f a = tt
 pub if_some : {T : Type 0} {A B : T → Type 0} (o : Option T) → ((x : T) → A x → B x) → IfSome o A → IfSome o B
 if_some (Some x) f a = f x a
 if_some None f a = tt
+
+pub any_some : {T : Type 0} {A : T → Type 0} (o : Option T) → ((x : T) → A x) → IfSome o A
+any_some (Some x) f = f x
+any_some None f = tt

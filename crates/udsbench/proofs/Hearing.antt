@@ -1,20 +1,18 @@
 -- A line that comes byte by byte, and an input that comes in any pieces.
-use Prim.Native.Nat.{ℕ, zero, suc, ◌+◌, ◌≤◌, ◌<◌}
+use Prim.Native.Nat.{ℕ, ◌+◌, ◌≤◌, ◌<◌}
 use native.Mathlib.Omega.{arith}
 use native.Mathlib.Numerals.{add-one}
-use mathlib.Core.Bool.{Bool, true, false, cond}
 use mathlib.Core.Path.{◌≡◌, refl, sym, ◌∙◌, ap, subst}
 use mathlib.Core.Logic.{◌≢◌}
 use mathlib.Core.List.{List, [], ◌∷◌, ◌++◌, append_assoc, append-nil}
 use borrow.Author.Tests.{le-leb, eq-eqb, ne_eqb}
-use lib.Dec.{eqb}
-use lib.ListN.{length, get_or, take, drop, set, length-set, length-append, length-take}
+use lib.ListN.{length, get_or, take, drop, set, length-set, length-append}
 use lib.Seq.{take-suc, take-suc-set, take_all, take_at, length-take-le}
 use Rattle.bench.specs.Talk.{talk}
 use Rattle.bench_line.specs.Answered.{Wrote}
 use Rattle.text.specs.declared.Written.{Written}
 use Rattle.text.specs.declared.Written.TheVariants.{Line, NoRoom}
-use Rattle.udsbench.specs.Hearing.{Bench, bench, heard, hearing, Heard}
+use Rattle.udsbench.specs.Hearing.{Bench, bench, heard, hearing, said_to, saying, Heard}
 
 -- The byte that comes next.
 module _ (l kept : List ℕ) (len c : ℕ) (whole : length kept ≡ 8197) (most : len ≤ 8197) where
@@ -47,6 +45,25 @@ pub hearing-next : (b : Bench) (a : List ℕ) (c : ℕ) → hearing b (a ++ (c �
 unfolding hearing
 hearing-next b [] c = refl
 hearing-next b (x ∷ a) c = hearing-next (heard b x) a c
+
+-- What is said of that byte stands behind what was said.
+pub saying-next : (b : Bench) (a : List ℕ) (c : ℕ) → saying b (a ++ (c ∷ [])) ≡ saying b a ++ said_to (hearing b a) c
+unfolding saying hearing
+saying-next b [] c = append-nil (said_to b c)
+saying-next b (x ∷ a) c =
+    ap (λ (k : List ℕ). said_to b x ++ k) (saying-next (heard b x) a c) ∙
+    sym (append_assoc (said_to b x) (saying (heard b x) a) (said_to (hearing (heard b x) a) c))
+
+pub saying-turn : (b : Bench) (input : List ℕ) (i : ℕ) {l k : List ℕ} {n : ℕ} → i < length input → Heard (hearing b (take i input)) l k n →
+    saying b (take i input) ++ said_to (bench l (take n k)) (get_or input i 0) ≡ saying b (take (i + 1) input)
+saying-turn b input i h x =
+    let more : take (i + 1) input ≡ take i input ++ (get_or input i 0 ∷ []) = rw add-one (take-suc input i 0 h) in
+    ap (λ (z : Bench). saying b (take i input) ++ said_to z (get_or input i 0)) x.is ∙
+    sym (saying-next b (take i input) (get_or input i 0)) ∙
+    ap (λ (z : List ℕ). saying b z) (sym more)
+
+pub says-nothing : (b : Bench) (c : ℕ) → c ≢ 10 → [] ≡ said_to b c
+says-nothing b c n = sym (rw (ne_eqb c 10 n) refl)
 
 pub turn : (b : Bench) (input : List ℕ) (i : ℕ) {l k : List ℕ} {n : ℕ} {l' k' : List ℕ} {r : ℕ} → i < length input → Heard (hearing b (take i input)) l k n
     → Heard (heard (bench l (take n k)) (get_or input i 0)) l' k' r → Heard (hearing b (take (i + 1) input)) l' k' r

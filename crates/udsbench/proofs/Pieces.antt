@@ -1,12 +1,12 @@
 -- An input that comes in any pieces is answered as `output` of `bench` says. What is kept of a line that is too long is as little a request as the line.
-use Prim.Native.Nat.{ℕ, suc, ◌+◌, ◌-◌, ◌*◌, ◌%◌, ◌≤◌, ◌<◌, min}
+use Prim.Native.Nat.{ℕ, suc, ◌+◌, ◌-◌, ◌%◌, ◌≤◌, min}
 use native.Mathlib.Omega.{arith}
-use mathlib.Core.Bool.{Bool, true, false, cond, ◌&&◌, false≢true}
-use mathlib.Core.Path.{◌≡◌, refl, sym, ◌∙◌, ap, subst}
+use mathlib.Core.Bool.{Bool, true, false, cond}
+use mathlib.Core.Path.{◌≡◌, refl, sym, ◌∙◌, ap}
 use mathlib.Core.List.{List, [], ◌∷◌, ◌++◌, append_assoc, append-nil}
-use borrow.Author.Tests.{leb-true, leb-false, lt-ltb}
+use borrow.Author.Tests.{leb-true, leb-false}
 use lib.Dec.{leb, eqb}
-use lib.ListN.{length, get_or, take, drop, length-take, length-drop, length-append}
+use lib.ListN.{length, get_or, take, length-take, length-drop}
 use lib.Seq.{take_all, take-take, take-append-le}
 use Rattle.rules.specs.Bytes.{every}
 use Rattle.rules.specs.Lines.{ascii}
@@ -15,7 +15,7 @@ use Rattle.rules.specs.Refusals.{between}
 use Rattle.rules.proofs.Judging.{both}
 use Rattle.bench.specs.Stores.{store_ok}
 use Rattle.bench.specs.Talk.{is_digit, is_hex_digit, number_from, unended, space_at, digits, number, numbered, line_tests, newline, Talked, talked, to_line, talk, answers, onto_first, lines_of, output}
-use Rattle.udsbench.specs.Hearing.{Bench, bench, heard, hearing, said_to, saying, last_to, hearing_all, saying_all, joined, Hearing}
+use Rattle.udsbench.specs.Hearing.{Bench, bench, heard, hearing, said_to, saying, last_to, hearing_all, saying_all, joined, spoken, Hearing}
 
 -- How long a line may be that can be read.
 space-inside : (l : List ℕ) → space_at l ≤ length l
@@ -138,13 +138,13 @@ said_all (c ∷ cs) l p = go (eqb c 10) (said_all cs (talk l (take 8197 p)).stor
         ap (λ (ls : List (List ℕ)). answers l ls) (behind_more p c (lines_of cs))
 
 -- Pieces, one after the other, are one.
-saying-append : (b : Bench) (a z : List ℕ) → saying b (a ++ z) ≡ saying b a ++ saying (hearing b a) z
+pub saying-append : (b : Bench) (a z : List ℕ) → saying b (a ++ z) ≡ saying b a ++ saying (hearing b a) z
 unfolding saying hearing
 saying-append b [] z = refl
 saying-append b (c ∷ a) z =
     ap (λ (k : List ℕ). said_to b c ++ k) (saying-append (heard b c) a z) ∙ sym (append_assoc (said_to b c) (saying (heard b c) a) (saying (hearing (heard b c) a) z))
 
-hearing-append : (b : Bench) (a z : List ℕ) → hearing b (a ++ z) ≡ hearing (hearing b a) z
+pub hearing-append : (b : Bench) (a z : List ℕ) → hearing b (a ++ z) ≡ hearing (hearing b a) z
 unfolding hearing
 hearing-append b [] z = refl
 hearing-append b (c ∷ a) z = hearing-append (heard b c) a z
@@ -158,7 +158,7 @@ pieces-heard b (piece ∷ pieces) =
       ap (λ (k : List ℕ). saying b piece ++ k) rest.1 ∙ sym (saying-append b piece (joined pieces)),
     )
 
-any-pieces : (l : List ℕ) (pieces : List (List ℕ)) → store_ok l ≡ true →
+pub any-pieces : (l : List ℕ) (pieces : List (List ℕ)) → store_ok l ≡ true →
     let b = hearing_all (bench l []) pieces in
     saying_all (bench l []) pieces ++ last_to b.store b.line ≡ output l (joined pieces)
 unfolding output
@@ -171,3 +171,26 @@ any-pieces l pieces ok =
 
 pub hearing-holds : Hearing
 hearing-holds = record { any-pieces = any-pieces }
+
+-- What is left of a line is answered where there is something.
+pub last-said : (l line : List ℕ) → 1 ≤ length line → (talk l line).text ≡ last_to l line
+last-said l [] h = absurd (omega arith)
+last-said l (c ∷ cs) h = refl
+
+pub none-left : (l line : List ℕ) → length line ≡ 0 → [] ≡ last_to l line
+none-left l [] h = refl
+none-left l (c ∷ cs) h = absurd (omega arith)
+
+-- Of an input in one piece.
+pub all-spoken : (l input : List ℕ) → store_ok l ≡ true → spoken l input ≡ output l input
+unfolding saying hearing
+all-spoken l input ok =
+    let h = any-pieces l (input ∷ []) ok in
+    let one = append-nil input in
+    ap (λ (k : List ℕ). k ++ last_to (hearing (bench l []) input).store (hearing (bench l []) input).line) (sym (append-nil (saying (bench l []) input))) ∙
+    h ∙ ap (λ (k : List ℕ). output l k) one
+
+-- Where the store is none there is one line, whatever the input.
+pub no-store : (l input : List ℕ) → store_ok l ≡ false → ascii "badstore" ++ newline ≡ output l input
+unfolding output
+no-store l input bad = sym (rw bad refl)

@@ -1,7 +1,7 @@
 -- An input that comes piece by piece: the store as it stands, and what has come of a line. What is said of it is `output` of `bench`, however it is cut.
 use Rattle.std.specs.Prelude.{ℕ, ◌≤◌, cond, true, ◌≡◌, List, [], ◌∷◌, ◌++◌, eqb, length, take}
 use Rattle.bench.specs.Stores.{store_ok}
-use Rattle.bench.specs.Talk.{Talked, talk, output}
+use Rattle.bench.specs.Talk.{talk, output}
 use Rattle.udsbench.specs.declared.Input.{Input}
 use Rattle.udsbench.specs.declared.Input.TheVariants.{More, End}
 use Rattle.udsbench.specs.declared.Loaded.{Loaded}
@@ -56,6 +56,15 @@ pub record Heard (b : Bench) (store kept : List ℕ) (n : ℕ) : Type 0 where
 abbrev pub Keeps : Input → Type 0
 Keeps (More n) = n ≤ 8197
 Keeps End = Unit {0}
+
+-- A piece of the input came and was heard; or none came, since it has ended, and all stays as it was.
+abbrev pub Goes : Bench → List ℕ → ℕ → Type 0 → Input → List ℕ → List ℕ → Type 0
+Goes b piece len ended (More n) store kept = (1 ≤ length piece) × Heard (hearing b piece) store kept n
+Goes b piece len ended End store kept = ended × (piece ≡ []) × Heard b store kept len
+
+-- All that is said of an input: the answers to its lines, and in the end to what is left of one.
+abbrev pub spoken : List ℕ → List ℕ → List ℕ
+spoken l input = let b = hearing (bench l []) input in saying (bench l []) input ++ last_to b.store b.line
 
 -- What was read fits the buffer.
 abbrev pub Fills : Loaded → ℕ → Type 0

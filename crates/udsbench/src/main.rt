@@ -2,9 +2,10 @@
 // A read of standard input or a write that fails ends it with an error.
 #![tactic(auto)]
 
-ghost use Rattle.std.specs.Prelude.{◌-◌, ◌≤◌, ◌≡◌, IfOk, length, take};
-ghost use Rattle.bench.specs.Talk.{talk};
-ghost use Rattle.udsbench.specs.Hearing.{bench, heard, hearing, Heard, Keeps, Fills};
+ghost use Rattle.std.specs.Prelude.{ℕ, ◌-◌, ◌^◌, ◌<◌, ◌≤◌, ◌≡◌, List, IfOk, IfSome, OnOk, length, take};
+ghost use Rattle.std.specs.Io.KnownBytes.{Appends, Consumes, IsAtEnd};
+ghost use Rattle.bench.specs.Talk.{talk, output};
+ghost use Rattle.udsbench.specs.Hearing.{bench, heard, hearing, said_to, saying, spoken, Heard, Keeps, Goes, Fills};
 
 use bench_line::{LONGEST, answer_line};
 use std::io;
@@ -29,7 +30,8 @@ fn line_of(store: &mut [u8], asked: &[u8], line: &mut [u8]) -> usize
 }
 
 fn answer<W: Write>(store: &mut [u8], asked: &[u8], lines: &mut W) -> io::Result<()>
-    ensures { store.new ≡ (talk store.old asked.now).store }
+    ensures kept { store.new ≡ (talk store.old asked.now).store }
+    ensures said { OnOk result (Appends (W.contents lines.old) (W.contents lines.new) (talk store.old asked.now).text) }
 {
     let mut line = [0u8; LONGEST];
     let n = line_of(store, asked, &mut line);
@@ -45,7 +47,8 @@ fn hear_byte<W: Write>(
     lines: &mut W,
 ) -> io::Result<usize>
     requires { (length kept.old ≡ 8197) × (len ≤ 8197) }
-    ensures { IfOk result (λ n. Heard (heard (bench store.old (take len kept.old)) byte) store.new kept.new n) }
+    ensures { IfOk result (λ n. Heard (heard (bench store.old (take len kept.old)) byte) store.new kept.new n ×
+        Appends (W.contents lines.old) (W.contents lines.new) (said_to (bench store.old (take len kept.old)) byte)) }
 {
     if byte == b'\n' {
         answer(store, part(kept, 0, len), lines)?;
@@ -66,7 +69,8 @@ fn hear<W: Write>(
     lines: &mut W,
 ) -> io::Result<usize>
     requires { (length kept.old ≡ 8197) × (len ≤ 8197) }
-    ensures { IfOk result (λ n. Heard (hearing (bench store.old (take len kept.old)) input.now) store.new kept.new n) }
+    ensures { IfOk result (λ n. Heard (hearing (bench store.old (take len kept.old)) input.now) store.new kept.new n ×
+        Appends (W.contents lines.old) (W.contents lines.new) (saying (bench store.old (take len kept.old)) input.now)) }
 {
     let mut n = len;
     let mut i = 0;
@@ -92,7 +96,10 @@ fn read_on<R: Read, W: Write>(
     lines: &mut W,
 ) -> io::Result<Input>
     requires { (length kept.old ≡ 8197) × (len ≤ 8197) }
-    ensures { IfOk result (λ next. (length kept.new ≡ 8197) × Keeps next) }
+    ensures kept { IfOk result (λ next. (length kept.new ≡ 8197) × Keeps next) }
+    ensures heard { IfOk result (λ next. (piece : List ℕ) × Consumes (R.remaining requests.old) (R.remaining requests.new) piece ×
+        Appends (W.contents lines.old) (W.contents lines.new) (saying (bench store.old (take len kept.old)) piece) ×
+        Goes (bench store.old (take len kept.old)) piece len (IsAtEnd (R.remaining requests.new)) next store.new kept.new) }
 {
     let mut input = [0u8; 4096];
     let n = requests.read(&mut input)?;
@@ -103,7 +110,7 @@ fn read_on<R: Read, W: Write>(
 }
 
 // A proved loop has to end, and nothing says that the input does: so it counts its turns down, from a number that no run uses up. The last line may
-// lack its LF.
+// lack its LF. What is said of the input is all that is written.
 fn listen<R: Read, W: Write>(
     store: &mut [u8],
     kept: &mut [u8],
@@ -111,6 +118,8 @@ fn listen<R: Read, W: Write>(
     lines: &mut W,
 ) -> io::Result<()>
     requires { length kept.old ≡ 8197 }
+    ensures { OnOk result (IfSome (R.remaining requests.old) (λ input. length input < 2 ^ 64 - 1 →
+        Appends (W.contents lines.old) (W.contents lines.new) (spoken store.old input))) }
 {
     let mut len = 0;
     let mut turns = u64::MAX;
@@ -131,11 +140,10 @@ fn listen<R: Read, W: Write>(
     Ok(())
 }
 
-fn talk_over<R: Read, W: Write>(
-    store: &mut [u8],
-    requests: &mut R,
-    lines: &mut W,
-) -> io::Result<()> {
+fn talk_over<R: Read, W: Write>(store: &mut [u8], requests: &mut R, lines: &mut W) -> io::Result<()>
+    ensures { OnOk result (IfSome (R.remaining requests.old) (λ input. length input < 2 ^ 64 - 1 →
+        Appends (W.contents lines.old) (W.contents lines.new) (output store.old input))) }
+{
     if !stores::sound(store) {
         return write_full(lines, b"badstore\n");
     }

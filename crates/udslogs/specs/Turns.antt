@@ -23,8 +23,7 @@ pub record Printed (run : Run) (input : List ℕ) (r : Run) (out said : List ℕ
   pub logs : r.logs ≡ batch.logs
   pub waits : r.waits ≡ eqb batch.taken 0
 
--- So many bytes came, and stand behind what was held; none where the file has ended. (That they are those of standard input, no contract can say:
--- what a read gives is not known.)
+-- So many bytes came, and stand behind what was held; none where the file has ended.
 pub record Read (run : Run) (input : List ℕ) (r : Run) (after : List ℕ) : Type 0 where
   pub came : List ℕ
   pub inside : Inside r after

@@ -1,5 +1,4 @@
 -- `log2uds::put_notes` meets its contract.
-use Prim.Native.Nat.{◌-◌}
 use native.Mathlib.Omega.{arith}
 use mathlib.Core.Path.{refl, ◌∙◌}
 use Rattle.log2uds.proofs.Notes.{none-copied, one-copied, all-copied}

@@ -2,5 +2,5 @@
 use borrow.Author.Rules.{rules}
 use Rattle.log2uds.proofs.run.Goals as goal
 
-pub import_lines-ends-requires : goal.import_lines-ends-requires
-import_lines-ends-requires c = (search rules, search rules)
+pub import_lines-requires : goal.import_lines-requires
+import_lines-requires c = (search rules, search rules)

@@ -2,5 +2,5 @@
 use borrow.Author.Rules.{rules}
 use Rattle.log2uds.proofs.run_call.Goals as goal
 
-pub import_log-ends-requires : goal.import_log-ends-requires
-import_log-ends-requires c = (search rules, search rules)
+pub import_log-requires : goal.import_log-requires
+import_log-requires c = (search rules, search rules)

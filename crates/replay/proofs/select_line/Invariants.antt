@@ -5,7 +5,7 @@ use lib.ListN.{length}
 use Rattle.replay.proofs.select_line.Given as goal
 
 abbrev pub invariant-loop-k : goal.invariant-loop-k
-invariant-loop-k l = (k ≤ l.n) × (length chosen ≡ 4000)
+invariant-loop-k l = (l.k ≤ l.n) × (length l.chosen ≡ 4000)
 
 abbrev pub decreases-loop-k : goal.decreases-loop-k
-decreases-loop-k l = l.n - k
+decreases-loop-k l = l.n - l.k

@@ -1,38 +1,33 @@
--- `udsbench::hear` meets its contract: i bytes were heard.
-use Prim.Native.Nat.{◌-◌}
-use native.Mathlib.Omega.{arith}
-use mathlib.Core.Path.{refl, sym, ◌∙◌}
-use Rattle.udsbench.proofs.Hearing.{turn, begin, finish}
+-- `udsbench::hear` meets its contract: i bytes were heard, and what is said of them is written.
+use Rattle.std.proofs.Common.{ap, subst, take, arith}
+use lib.Seq.{take_all}
+use Rattle.std.specs.Io.KnownBytes.{Appends}
+use Rattle.std.proofs.KnownBytes.{Appends-nil, Appends-trans}
+use Rattle.udsbench.specs.Hearing.{bench, saying}
+use Rattle.udsbench.proofs.Hearing.{turn, begin, finish, saying-turn}
 use Rattle.udsbench.proofs.hear.Goals as goal
 
 pub loop-i-init : goal.loop-i-init
-loop-i-init c =
-    (omega arith, begin c.args.store.now c.args.kept.now c.args.len c.args.input.now c.requires.0 c.requires.1, refl)
+unfolding saying
+loop-i-init g c =
+    (omega arith, begin c.args.store.now c.args.kept.now c.args.len c.args.input.now c.requires.0 c.requires.1, Appends-nil _)
 
-pub bounds-input-i : goal.bounds-input-i
-bounds-input-i c = omega arith
-
-pub hear_byte-n-requires : goal.hear_byte-n-requires
-hear_byte-n-requires c =
-    (c.loop-i.invariant.1.whole, c.loop-i.invariant.1.most)
-
-pub overflow_add-i : goal.overflow_add-i
-overflow_add-i c = omega arith
-
-pub loop-i-smaller : goal.loop-i-smaller
-loop-i-smaller c = omega arith
+pub hear_byte-requires : goal.hear_byte-requires
+hear_byte-requires g c = (c.loop-i.invariant.1.whole, c.loop-i.invariant.1.most)
 
 pub loop-i-preserved : goal.loop-i-preserved
-loop-i-preserved c =
-    (omega arith, turn _ c.args.input.now c.loop-i.i c.loop-i-test.true c.loop-i.invariant.1 c.hear_byte-n.ensures, c.hear_byte-n.auto.store ∙ c.loop-i.invariant.2)
-
-pub shape_of-store : goal.shape_of-store
-shape_of-store c = c.loop-i.invariant.2
-
-pub shape_of-kept : goal.shape_of-kept
-shape_of-kept c =
-    c.loop-i.invariant.1.whole ∙ sym c.requires.0
+loop-i-preserved g c =
+    let l = c.loop-i in (
+      omega (arith, c.loop-i-test.true),
+      turn _ c.args.input.now l.i c.loop-i-test.true l.invariant.1 c.in_ok-n.ensures.0,
+      subst (Appends _ _) (saying-turn _ c.args.input.now l.i c.loop-i-test.true l.invariant.1)
+          (Appends-trans _ _ _ _ _ l.invariant.2 c.in_ok-n.ensures.1),
+    )
 
 pub returns : goal.returns
-returns c =
-    finish _ c.args.input.now c.loop-i.i c.loop-i-test.false c.loop-i.invariant.1
+returns g c =
+    let l = c.loop-i in
+    let b = bench c.args.store.now (take c.args.len c.args.kept.now) in (
+      finish _ c.args.input.now l.i c.loop-i-test.false l.invariant.1,
+      subst (Appends _ _) (ap (saying b) (take_all l.i c.args.input.now c.loop-i-test.false)) l.invariant.2,
+    )

@@ -1,19 +1,18 @@
 -- `udsbench::hear_byte` meets its contract.
-use mathlib.Core.List.{List}
-use mathlib.Core.Path.{◌∙◌, ap}
-use Prim.Native.Nat.{ℕ}
-use Rattle.bench.specs.Talk.{talk}
-use Rattle.udsbench.proofs.Hearing.{line-ends, full, one_more}
+use Rattle.std.proofs.Common.{subst}
+use Rattle.std.specs.Io.KnownBytes.{Appends}
+use Rattle.std.proofs.KnownBytes.{Appends-nil}
+use Rattle.udsbench.proofs.Hearing.{full, one_more, says-nothing}
 use Rattle.udsbench.proofs.hear_byte.Goals as goal
 
-pub returns-then-byte-eq10 : goal.returns-then-byte-eq10
-returns-then-byte-eq10 c =
-    line-ends c.args.store.now c.args.kept.now c.args.len c.args.byte c.requires.0 c.requires.1 c.if1.true (c.answer.ensures ∙ ap (λ (k : List ℕ). (talk c.args.store.now k).store) c.part.ensures)
-
 pub returns-then-len-kept : goal.returns-then-len-kept
-returns-then-len-kept c =
-    full c.args.store.now c.args.kept.now c.args.len c.args.byte c.requires.0 c.requires.1 c.if-byte-eq10.false c.if-len-kept.true
+returns-then-len-kept g c = (
+  full c.args.store.now c.args.kept.now c.args.len c.args.byte c.requires.0 c.requires.1 c.if-byte-eq10.false c.if-len-kept.true,
+  subst (Appends _ _) (says-nothing _ c.args.byte c.if-byte-eq10.false) (Appends-nil _),
+)
 
 pub returns : goal.returns
-returns c =
-    one_more c.args.store.now c.args.kept.now c.args.len c.args.byte c.requires.0 c.requires.1 c.if-byte-eq10.false c.if-len-kept.false
+returns g c = (
+  one_more c.args.store.now c.args.kept.now c.args.len c.args.byte c.requires.0 c.requires.1 c.if-byte-eq10.false c.if-len-kept.false,
+  subst (Appends _ _) (says-nothing _ c.args.byte c.if-byte-eq10.false) (Appends-nil _),
+)

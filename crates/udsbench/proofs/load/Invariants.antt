@@ -5,7 +5,7 @@ use lib.ListN.{length}
 use Rattle.udsbench.proofs.load.Given as goal
 
 abbrev pub invariant-loop-n : goal.invariant-loop-n
-invariant-loop-n l = (l.n ≤ length l.file) × (length l.file ≡ length l.initial.file)
+invariant-loop-n g l = (l.n ≤ length l.file) × (length l.file ≡ length l.initial.file)
 
 abbrev pub decreases-loop-n : goal.decreases-loop-n
-decreases-loop-n l = length l.file - l.n
+decreases-loop-n g l = length l.file - l.n

@@ -18,9 +18,9 @@ pub returns-in-Book : goal.returns-in-Book
 returns-in-Book c =
     let x = c.args in
     let book = take x.n x.book.now in
-    let few : length c.add.new.1.1.1.0 ≤ 4176 =
-    omega (arith, c.summary-1.given, c.summary-2-1.given, c.requires.1) in
-    added book x.log.now x.book.now x.summary.now c.summarize.new.1.0 c.add.new.0 c.add.new.1.1.1.0 x.said.now
+    let few : length c.add.new.summary ≤ 4176 =
+    omega (arith, c.summarize.auto.summary, c.add.auto.summary, c.requires.1) in
+    added book x.log.now x.book.now x.summary.now c.summarize.new.summary c.add.new.book c.add.new.summary x.said.now
     c.put_added.new.text c.requires.2 c.summarize.result
     c.in-Book.m c.put_added.result c.in-Book.entry c.requires.1 few (rw c.part.ensures at c.summarize.ensures)
     (rw c.in-Book.is at c.add.ensures) c.put_added.ensures

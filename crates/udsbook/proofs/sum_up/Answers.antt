@@ -8,8 +8,8 @@ use Rattle.udsbook.proofs.sum_up.Goals as goal
 pub returns-in-Summary : goal.returns-in-Summary
 returns-in-Summary c =
     let x = c.args in
-    let few : length c.summarize.new.1.0 ≤ 4176 = omega (arith, c.summary-1.given, c.requires.1) in
-    summed-up (take x.n x.book.now) x.summary.now c.summarize.new.1.0 c.requires.1 c.put_summary.result x.book.now
+    let few : length c.summarize.new.summary ≤ 4176 = omega (arith, c.summarize.auto.summary, c.requires.1) in
+    summed-up (take x.n x.book.now) x.summary.now c.summarize.new.summary c.requires.1 c.put_summary.result x.book.now
     c.put_summary.new.text x.said.now c.requires.0 few
     (rw (c.in-Summary.is, c.part.ensures) at c.summarize.ensures) c.put_summary.ensures
 
