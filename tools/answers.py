@@ -99,15 +99,15 @@ class Turn:
     def lets(self, root):
         """The words of the file that an answer wants, as `let`s of its record `root`, and what they unfold."""
         done, unfold = [], []
-        todo = set(self.wants)
-        while todo:
-            name = todo.pop()
+        waiting = set(self.wants)
+        while waiting:
+            name = waiting.pop()
             if name in done:
                 continue
             done.append(name)
             self.wants = set()
             self.made(name, root)
-            todo |= self.wants - set(done)
+            waiting |= self.wants - set(done)
         out = ""
         for name in [n for n in self.helpers if n in done]:
             sort, body, more, note = self.made(name, root)
