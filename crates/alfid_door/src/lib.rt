@@ -4,9 +4,8 @@
 ghost use Rattle.door.specs.Door.{fields};
 ghost use Rattle.host.specs.Served.{InNumbers};
 
-use door::{fields, fits, has_alfid, limited};
+use door::{ask_for, fields, has_alfid};
 use exchange::types::Timing;
-use log_call::{Fields, ask_of};
 use numbers::numbers;
 
 // `bintrochis_door_call` for these forms: "address and size as 64-bit numbers, each with a width in bytes", and the
@@ -42,13 +41,9 @@ pub fn bintrochis_door_call_alfid(
     if !has_alfid(call) {
         return 1;
     }
-    let Fields::Ask(ask) = ask_of(h) else {
+    let Some(ask) = ask_for(h, limit, data.len()) else {
         return 1;
     };
-    if !fits(h, limit, data.len()) {
-        return 1;
-    }
-    let ask = limited(ask, limit);
     let session = Timing { p2, star: p2_star };
     let x = calls::run_alfid(
         session,

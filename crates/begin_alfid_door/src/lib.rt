@@ -5,9 +5,8 @@ ghost use Rattle.std.specs.Prelude.{true};
 ghost use Rattle.door.specs.Door.{fields};
 ghost use Rattle.step_door.specs.Stepping.{BegunInNumbers};
 
-use door::{fields, fits, has_alfid, limited};
+use door::{ask_for, fields, has_alfid};
 use exchange::types::Timing;
-use log_call::{Fields, ask_of};
 use state_numbers::told;
 
 // `bintrochis_door_begin` for what `bintrochis_door_call_alfid` takes.
@@ -39,13 +38,9 @@ pub fn bintrochis_door_begin_alfid(
     if !has_alfid(call) {
         return 1;
     }
-    let Fields::Ask(ask) = ask_of(h) else {
+    let Some(ask) = ask_for(h, limit, data.len()) else {
         return 1;
     };
-    if !fits(h, limit, data.len()) {
-        return 1;
-    }
-    let ask = limited(ask, limit);
     let session = Timing { p2, star: p2_star };
     let engine = steps::begin_alfid(
         session,

@@ -5,9 +5,8 @@ ghost use Rattle.std.specs.Prelude.{true};
 ghost use Rattle.door.specs.Door.{fields};
 ghost use Rattle.step_door.specs.Stepping.{BegunInBytes};
 
-use door::{fields, fits, limited};
+use door::{ask_for, fields};
 use exchange::types::Timing;
-use log_call::{Fields, ask_of};
 use state_numbers::told;
 use wire::part;
 
@@ -44,18 +43,14 @@ pub fn bintrochis_door_begin(
         true,
         listens,
     );
-    let Fields::Ask(ask) = ask_of(h) else {
+    let Some(ask) = ask_for(h, limit, arguments.len()) else {
         return 1;
     };
-    if !fits(h, limit, arguments.len()) {
-        return 1;
-    }
     let at_size = address_length as usize;
     let at_data = at_size + size_length as usize;
     let address = part(arguments, 0, at_size);
     let size = part(arguments, at_size, size_length as usize);
     let data = part(arguments, at_data, arguments.len());
-    let ask = limited(ask, limit);
     let session = Timing { p2, star: p2_star };
     let engine = steps::begin(session, ask, request, address, size, data);
     *state = told(

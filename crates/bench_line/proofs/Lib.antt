@@ -1,4 +1,3 @@
--- Laws of `bench_line`: digits, a line read byte by byte, and its answer.
-pub mod Digits
+-- Laws of `bench_line`: a line read byte by byte, and its answer.
 pub mod Reading
 pub mod Answering

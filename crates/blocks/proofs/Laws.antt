@@ -6,7 +6,7 @@ use borrow.Author.Tests.{lt-leb}
 use Rattle.rules.specs.Blocks.{block, counter, carried}
 use Rattle.rules.specs.Calls.{request_of}
 use Rattle.rules.specs.Layouts.{transfer_of}
-use Rattle.blocks.specs.declared.Cut.TheVariants.{Counter, Refused}
+use Rattle.std.specs.Prelude.{Ok, Err}
 use Rattle.blocks.specs.Cuts.{cut, number, joined}
 
 -- "Its counter starts at 1 and steps by one modulo 256, so 0 follows 255."
@@ -21,15 +21,15 @@ zero-follows-255 k e = counter-steps k ∙ rw e
 
 -- The answer by cases. 11: "N below 3"; 12: "no block of that number".
 module _ (bytes : List ℕ) (n k : ℕ) where
-  pub accepts : 3 ≤ n → k * carried n < length bytes → cut bytes n k ≡ Counter (counter k)
+  pub accepts : 3 ≤ n → k * carried n < length bytes → cut bytes n k ≡ Ok (counter k)
   unfolding cut
   accepts h b = rw (le-leb 3 n h, lt-ltb (k * carried n) (length bytes) b)
 
-  pub refuses-length : n < 3 → cut bytes n k ≡ Refused 11
+  pub refuses-length : n < 3 → cut bytes n k ≡ Err 11
   unfolding cut
   refuses-length h = rw (lt-leb 3 n h)
 
-  pub refuses-number : 3 ≤ n → length bytes ≤ k * carried n → cut bytes n k ≡ Refused 12
+  pub refuses-number : 3 ≤ n → length bytes ≤ k * carried n → cut bytes n k ≡ Err 12
   unfolding cut
   refuses-number h b = rw (le-leb 3 n h, le-ltb (k * carried n) (length bytes) b)
 
@@ -39,7 +39,7 @@ module _ (bytes : List ℕ) (n k : ℕ) where
     pub begins : k * carried n < length bytes
     pub counts : c ≡ (k + 1) % 256
 
-  pub given : (c : ℕ) → cut bytes n k ≡ Counter c → Given c
+  pub given : (c : ℕ) → cut bytes n k ≡ Ok c → Given c
   given c e = go (leb 3 n) (ltb (k * carried n) (length bytes)) refl refl
     where
       go : (p q : Bool) → leb 3 n ≡ p → ltb (k * carried n) (length bytes) ≡ q → Given c
@@ -57,8 +57,12 @@ module _ (bytes : List ℕ) (n k : ℕ) where
           let z : ◌≡◌ {A = ℕ} 0 1 = cc in
           absurd (omega arith)
 
+  -- Whoever is not refused has a block: it begins inside the data.
+  pub begins : (c : ℕ) → Ok c ≡ cut bytes n k → (cut bytes n k ≡ cut bytes n k) × (3 ≤ n) × (k * (n - 2) < length bytes)
+  begins c e = let g = given c (sym e) in (refl, g.long, g.begins)
+
   -- Who is refused is handed no bytes.
-  pub refused-empty : (r : ℕ) → cut bytes n k ≡ Refused r → block bytes n k ≡ []
+  pub refused-empty : (r : ℕ) → cut bytes n k ≡ Err r → block bytes n k ≡ []
   unfolding block
   refused-empty r e = go (leb 3 n) (ltb (k * carried n) (length bytes)) refl refl
     where
@@ -83,7 +87,7 @@ module _ (bytes : List ℕ) (n : ℕ) (h : 3 ≤ n) where
       let next = suc-mul k step in
       (λ b. omega (arith, iff.0 b), λ b. iff.1 (omega arith))
 
-  pub handed_out : (k : ℕ) → (k < number bytes n) ↔ (cut bytes n k ≡ Counter (counter k))
+  pub handed_out : (k : ℕ) → (k < number bytes n) ↔ (cut bytes n k ≡ Ok (counter k))
   handed_out k =
       (λ b. accepts bytes n k h ((numbered k).0 b), λ e. (numbered k).1 (given bytes n k (counter k) e).begins)
 

@@ -1,13 +1,11 @@
 -- What cutting answers, and all blocks of some data.
-use Rattle.std.specs.Prelude.{ℕ, zero, suc, ◌+◌, ◌-◌, ◌/◌, List, [], ◌++◌, length}
+use Rattle.std.specs.Prelude.{ℕ, zero, suc, ◌+◌, ◌-◌, ◌/◌, List, [], ◌++◌, length, Result, Ok, Err}
 use Rattle.rules.specs.Blocks.{block, counter, cuts, carried}
 use Rattle.rules.specs.InOrder.{judge}
-use Rattle.blocks.specs.declared.Cut.{Cut}
-use Rattle.blocks.specs.declared.Cut.TheVariants.{Counter, Refused}
 
--- "Order: 11, 12."
-unfoldable pub cut : List ℕ → ℕ → ℕ → Cut
-cut bytes n k = judge Refused (cuts bytes n k) (Counter (counter k))
+-- The counter that block k is sent with, or the number of the refusal. "Order: 11, 12."
+unfoldable pub cut : List ℕ → ℕ → ℕ → Result ℕ ℕ
+cut bytes n k = judge Err (cuts bytes n k) (Ok (counter k))
 
 -- How many blocks there are.
 abbrev pub number : List ℕ → ℕ → ℕ

@@ -3,38 +3,33 @@
 
 ghost use Rattle.std.specs.Prelude.{◌≡◌};
 ghost use Rattle.rules.specs.Blocks.{block};
+ghost use Rattle.wire.specs.Refusing.{numbered};
 ghost use Rattle.blocks.specs.Cuts.{cut};
 
-// The counter that block k is sent with, or the refusal.
-#[derive(Clone, Copy)]
-pub enum Cut {
-    Counter(u8),
-    Refused(u8),
-}
+use wire::refusal::Refusal;
 
-// Of `data` under the block length `n` that call 11 returned: a whole TransferData request, so a block carries n − 2 bytes. There is no
-// cap: above n = 4,095 the request of a full block passes 4,095 bytes, and call 13 refuses it with 8.
+// The counter that block k of `data` is sent with, or why there is none, under the block length `n` that call 11 returned: a whole
+// TransferData request, so a block carries n − 2 bytes. There is no cap: above n = 4,095 the request of a full block passes 4,095 bytes,
+// and call 13 refuses it with 8.
 // That block k begins before the end is k ≤ (length − 1) / (n − 2): the product may pass 64 bits.
-pub fn counter(data: &[u8], n: u64, k: u64) -> Cut
-    ensures { result ≡ cut «data».now n k }
+pub fn counter(data: &[u8], n: u64, k: u64) -> Result<u8, Refusal>
+    ensures { numbered result ≡ cut «data».now n k }
 {
     if n < 3 {
-        return Cut::Refused(11);
+        return Err(Refusal::BlockLength);
     }
-    if data.len() == 0 {
-        return Cut::Refused(12);
+    if data.is_empty() || k > (data.len() - 1) as u64 / (n - 2) {
+        return Err(Refusal::BlockNumber);
     }
-    if k > (data.len() - 1) as u64 / (n - 2) {
-        return Cut::Refused(12);
-    }
-    Cut::Counter(std::num::wrapping_add_u8((k % 256) as u8, 1))
+    Ok(((k % 256) as u8).wrapping_add(1))
 }
 
 // Block k, a part of the lent data: n − 2 bytes or the rest, and nothing where `counter` refuses.
+#[tactic(auto, using(crate::proofs::Laws::begins))]
 pub fn block<'a>(data: &'a [u8], n: u64, k: u64) -> &'a [u8]
     ensures { result.now ≡ block «data».now n k }
 {
-    let Cut::Counter(_) = counter(data, n, k) else {
+    let Ok(_) = counter(data, n, k) else {
         return &data[..0];
     };
     let carried = n - 2;

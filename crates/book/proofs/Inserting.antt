@@ -1,21 +1,21 @@
 -- Laws of a log that is put behind the others: what each step leaves in the buffer.
 use Prim.Native.Nat.{ℕ, suc, ◌+◌, ◌-◌, ◌*◌, ◌≤◌, ◌<◌}
-use native.Mathlib.Numerals.{add-one}
 use native.Mathlib.Omega.{arith}
 use mathlib.Core.Bool.{true}
 use mathlib.Core.List.{List, [], ◌∷◌, ◌++◌, append_assoc, append-nil}
 use mathlib.Core.Path.{◌≡◌, refl, sym, ◌∙◌, ap, ap₂}
-use lib.ListN.{length, get_or, set, take, drop, length-append, length-take, length-drop, take-append-drop, get_or-append}
-use lib.Seq.{take_at, drop_at, drop-drop, drop-cons, take-suc, append_snoc, set_at, length-take-le, get_or-take, get_or-drop}
+use lib.ListN.{length, take, drop, length-append, length-take, length-drop, take-append-drop}
+use lib.Seq.{take_at, drop_at, drop-drop, length-take-le}
 use borrow.Author.Tests.{le-leb}
 use Rattle.rules.specs.Bytes.{u16_at, four}
 use Rattle.rules.specs.Logs.{area}
-use Rattle.rules.proofs.Opened.{empty}
 use Rattle.rules.proofs.Writing.{two_back}
+use Rattle.std.specs.List.{copy_within}
 use Rattle.wire.specs.Buffers.{with}
 use Rattle.bookkeeping.specs.Layout.{joined, entry, directory, start, header, book_of, logs_in}
 use Rattle.bookkeeping.specs.Book.{is_book}
 use Rattle.bookkeeping.proofs.Books.{Book, opened}
+use Rattle.bookkeeping.proofs.Counting.{few-logs}
 use Rattle.bookkeeping.proofs.Layouts.{length-directory, length-book, length-longer}
 use Rattle.book.specs.Moved.{moved}
 
@@ -28,47 +28,13 @@ replaced a x y c at h k =
     let behind : drop (at + length y) l ≡ c = sym (drop-drop (length y) at l) ∙ ap (drop (length y)) (drop_at a (x ++ c) at h) ∙ drop_at x c (length y) k in
     rw (room, take_at a (x ++ c) at h, behind) (append_assoc a y c)
 
--- The bytes that move on by 8, the last first: those from number i on stand in their new place.
-module _ (z : List ℕ) (from len : ℕ) where
-  abbrev source : List ℕ
-  source = area z from len
-
-  length-source : from + len + 8 ≤ length z → length source ≡ len
-  length-source room = omega (arith, length-take len (drop from z), length-drop from z)
-
-  abbrev pub behind : ℕ → List ℕ
-  behind i = drop i source ++ drop (from + 8 + len) z
-
-  abbrev pub moving : ℕ → List ℕ
-  moving i = take (from + 8 + i) z ++ behind i
-
-  pub none-moved : from + len + 8 ≤ length z → z ≡ moving len
-  none-moved room = rw (empty (drop len source) (omega (arith, length-drop len source, length-source room))) (sym (take-append-drop (from + 8 + len) z))
-
-  pub one-moved : from + len + 8 ≤ length z → (k : ℕ) → k < len → set (moving (k + 1)) (from + k + 8) (get_or (moving (k + 1)) (from + k) 0) ≡ moving k
-  one-moved room k h =
-      let at = from + 8 + k in
-      let front : from + 8 + (k + 1) ≡ suc at = omega arith in
-      let place : from + k + 8 ≡ at = omega arith in
-      let long : length (take (suc at) z) ≡ suc at = length-take-le (suc at) z (omega arith) in
-      let read : get_or (take (suc at) z ++ behind (suc k)) (from + k) 0 ≡ get_or source k 0 =
-      get_or-append (take (suc at) z) (behind (suc k)) 0 (from + k) (omega (arith, long)) ∙
-      get_or-take (suc at) z (from + k) 0 (omega arith) ∙
-      sym (get_or-drop from z k 0) ∙
-      sym (get_or-take len (drop from z) k 0 h)
-      in
-      let split : take (suc at) z ++ behind (suc k) ≡ take at z ++ (get_or z at 0 ∷ behind (suc k)) =
-      rw (take-suc z at 0 (omega arith)) (append_snoc (take at z) (get_or z at 0) (behind (suc k)))
-      in
-      rw (add-one k, place, ← (add-one k), front, add-one k, read, split, drop-cons source k 0 (omega (arith, length-source room)))
-      (set_at (take at z) (get_or z at 0) (behind (suc k)) (get_or source k 0) at (length-take-le at z (omega arith)))
-
-  pub all_moved : from + len + 8 ≤ length z → moving 0 ≡ with z (from + 8) source
-  unfolding with
-  all_moved room =
-      let none : from + 8 + 0 ≡ from + 8 = omega arith in
-      let fits = le-leb (from + 8 + length source) (length z) (omega (arith, length-source room)) in
-      rw (none, fits, length-source room) (sym (append_assoc (take (from + 8) z) source (drop (from + 8 + len) z)))
+-- The bytes from one index up to another, copied to 8 bytes further on.
+pub moved-on : (z : List ℕ) (from to : ℕ) → from ≤ to → to + 8 ≤ length z → copy_within z from to (from + 8) ≡ with z (from + 8) (area z from (to - from))
+unfolding with
+moved-on z from to h room =
+    let long : length (area z from (to - from)) ≡ to - from = omega (arith, length-take (to - from) (drop from z), length-drop from z) in
+    let fits = le-leb (from + 8 + length (area z from (to - from))) (length z) (omega (arith, long)) in
+    rw (fits, long)
 
 -- The offsets, entry by entry: what stands in front, and what is still to be written.
 abbrev pub to_come : List ℕ → ℕ → ℕ → ℕ → List ℕ
@@ -159,6 +125,24 @@ module _ (z : List ℕ) (n : ℕ) (is : is_book (take n z) ≡ true) (reach : n 
   -- The count that the buffer's front says.
   pub count-in : u16_at z 4 ≡ count
   count-in = ap (λ (x : List ℕ). u16_at x 4) buffer ∙ two_back count
+
+  -- What is read of it before a log is put behind the others: how many logs there are, and where they begin.
+  pub record Read (read begins : ℕ) : Type 0 where
+    pub counted : read ≡ count
+    pub few : read ≤ 1489
+    pub started : begins ≡ start count
+    pub long : n ≡ begins + length j
+
+  pub as-read : (read begins : ℕ) → read ≡ u16_at z 4 → begins ≡ start read → Read read begins
+  as-read read begins c s =
+      let counted : read ≡ count = c ∙ count-in in
+      let started : begins ≡ start count = s ∙ ap start counted in
+      record {
+        counted = counted;
+        few = omega (arith, counted, few-logs (take n z) open-book);
+        started = started;
+        long = book-long ∙ ap (λ (k : ℕ). k + length j) (sym started);
+      }
 
   module _ (log : List ℕ) (room : n + 8 + length log ≤ length z) where
     abbrev rest : List ℕ

@@ -1,5 +1,6 @@
 -- Laws behind the proofs of `book`.
-pub mod Walks
+pub mod Bytes
 pub mod Inserting
+pub mod Walks
 pub mod Adding
 pub mod Promises

@@ -1,32 +1,70 @@
 -- Laws of finding and of the summary, by a walk through the logs of a book.
+use Rattle.std.specs.List.{count_by}
+use Rattle.std.proofs.lemmas.List.Recursion.{is_count_by}
 use Prim.Native.Nat.{ℕ, zero, suc, ◌+◌, ◌-◌, ◌<◌}
 use native.Mathlib.Omega.{arith}
-use mathlib.Core.Bool.{Bool, true, false}
-use mathlib.Core.List.{List, [], ◌∷◌}
+use mathlib.Core.Bool.{Bool, true, false, cond}
+use mathlib.Core.List.{List, [], ◌∷◌, ◌++◌, append_assoc}
 use mathlib.Core.Path.{◌≡◌, refl, sym, ◌∙◌, ap}
 use lib.Dec.{ltb, eqb}
-use lib.ListN.{length, get_or}
+use lib.ListN.{length, get_or, drop, replicate, length-append}
+use lib.Seq.{drop_at, drop-drop}
 use borrow.Author.Tests.{eq-eqb, ne_eqb, lt-ltb, le-ltb, ltb-true, ltb-false}
+use Rattle.rules.specs.Bytes.{u16_at, every}
 use Rattle.rules.specs.InOrder.{unless, judge}
-use Rattle.rules.specs.Logs.{area}
-use Rattle.bookkeeping.specs.Layout.{call_byte, logs_in}
+use Rattle.rules.specs.Logs.{layout_ok}
+use Rattle.bookkeeping.specs.Layout.{call_byte, joined, directory, start, header, logs_in}
 use Rattle.bookkeeping.specs.Book.{is_book, of_call, Answer, refused, gives, find, summary}
 use Rattle.bookkeeping.specs.Summary.{afresh}
-use Rattle.book_layout.proofs.Walks.{log_at, whole-log, left, one_left}
+use Rattle.bookkeeping.proofs.Books.{opened}
+use Rattle.bookkeeping.proofs.Counting.{raised_all, zeros, one_by_one, few-logs}
+use Rattle.bookkeeping.proofs.Layouts.{length-directory, length-book}
+use Rattle.book_layout.proofs.Walks.{as_many}
 use Rattle.book.specs.Answered.{stands_at}
 
 module _ (b : List ℕ) where
-  pub no-book : (c k : ℕ) → is_book b ≡ false → find b c k ≡ refused 25
+  pub no_book : (c k : ℕ) → is_book b ≡ false → find b c k ≡ refused 25
   unfolding find
-  no-book c k h = rw h
+  no_book c k h = rw h
 
-  pub no-summary : is_book b ≡ false → summary b ≡ refused 25
+  pub no_summary : is_book b ≡ false → summary b ≡ refused 25
   unfolding summary
-  no-summary h = rw h
+  no_summary h = rw h
 
   pub sums : is_book b ≡ true → summary b ≡ gives (afresh (logs_in b))
   unfolding summary
   sums h = rw h
+
+  -- The logs of a book are all that is behind its directory.
+  module _ (is : is_book b ≡ true) where
+    counted : length (logs_in b) ≡ u16_at b 4
+    counted = as_many (drop 20 b) (u16_at b 4) (drop (start (u16_at b 4)) b)
+
+    pub behind : joined (logs_in b) ≡ drop (start (u16_at b 4)) b
+    behind =
+        let ls = logs_in b in
+        let n = length ls in
+        let front = header n (length (joined ls)) ++ directory (start n) ls in
+        let long : length front ≡ start n = omega (arith, length-append (header n (length (joined ls))) (directory (start n) ls), length-directory (start n) ls) in
+        sym (drop_at front (joined ls) (start n) long) ∙
+        ap (drop (start n)) (append_assoc (header n (length (joined ls))) (directory (start n) ls) (joined ls) ∙ (opened b is).is) ∙
+        ap (λ (m : ℕ). drop (start m) b) counted
+
+    pub whole : start (u16_at b 4) + length (joined (logs_in b)) ≡ length b
+    whole =
+        ap (λ (m : ℕ). start m + length (joined (logs_in b))) (sym counted) ∙
+        sym (length-book (logs_in b)) ∙
+        ap (λ (x : List ℕ). length x) (opened b is).is
+
+-- The logs of a call, as they are counted.
+pub by_call : (c : ℕ) (ls : List (List ℕ)) → length (of_call c ls) ≡ count_by (λ (l : List ℕ). eqb (call_byte l) c) ls
+by_call c ls =
+    is_count_by (λ (xs : List (List ℕ)). length (of_call c xs)) (λ (l : List ℕ). eqb (call_byte l) c) refl
+    (λ l xs. one (eqb (call_byte l) c) l (of_call c xs)) ls
+  where
+    one : (t : Bool) (l : List ℕ) (xs : List (List ℕ)) → length (cond t (l ∷ xs) xs) ≡ cond t (1 + length xs) (length xs)
+    one true l xs = omega arith
+    one false l xs = refl
 
 -- The k-th log of a call, or none.
 abbrev pub nth : ℕ → ℕ → List (List ℕ) → Answer
@@ -46,62 +84,41 @@ ltb-suc k n = go (ltb k n) refl
     go true q = lt-ltb (suc k) (suc n) (omega (arith, ltb-true k n q)) ∙ sym q
     go false q = le-ltb (suc k) (suc n) (omega (arith, ltb-false k n q)) ∙ sym q
 
--- A log in front of others, by whether it is of the call.
-module _ (c : ℕ) (l : List ℕ) (ls : List (List ℕ)) (at : ℕ) where
-  pub passed : (k : ℕ) → eqb (call_byte l) c ≡ false → (nth c k (l ∷ ls) ≡ nth c k ls) × (stands_at c k at (l ∷ ls) ≡ stands_at c k (at + length l) ls)
-  passed zero e = (rw e, rw e)
-  passed (suc k) e = (rw e, rw e)
+-- A log in front of others, by whether it is of the call: what is sought among those behind it, and where it stands.
+module _ (c k : ℕ) (l : List ℕ) (ls : List (List ℕ)) (at : ℕ) where
+  pub passed : (call_byte l ≡ c → ⊥) → (nth c k (l ∷ ls) ≡ nth c k ls) × (stands_at c k at (l ∷ ls) ≡ stands_at c k (at + length l) ls)
+  passed other = go k
+    where
+      e : eqb (call_byte l) c ≡ false
+      e = ne_eqb (call_byte l) c other
 
-  pub here : eqb (call_byte l) c ≡ true → (nth c 0 (l ∷ ls) ≡ gives l) × (stands_at c 0 at (l ∷ ls) ≡ at)
-  here e = (rw (e, lt-ltb 0 (suc (length (of_call c ls))) (omega arith)), rw e)
+      go : (j : ℕ) → (nth c j (l ∷ ls) ≡ nth c j ls) × (stands_at c j at (l ∷ ls) ≡ stands_at c j (at + length l) ls)
+      go zero = (rw e, rw e)
+      go (suc j) = (rw e, rw e)
 
-  pub counted : (k : ℕ) → eqb (call_byte l) c ≡ true → (nth c (suc k) (l ∷ ls) ≡ nth c k ls) × (stands_at c (suc k) at (l ∷ ls) ≡ stands_at c k (at + length l) ls)
-  counted k e = (rw (e, ltb-suc k (length (of_call c ls))), rw e)
+  pub one_less : call_byte l ≡ c → 0 < k → (nth c k (l ∷ ls) ≡ nth c (k - 1) ls) × (stands_at c k at (l ∷ ls) ≡ stands_at c (k - 1) (at + length l) ls)
+  one_less this h = go k h
+    where
+      e : eqb (call_byte l) c ≡ true
+      e = eq-eqb (call_byte l) c this
 
--- The log that is walked at, as it was read.
-module _ (b : List ℕ) (n i at : ℕ) (more : i < n) (log : List ℕ) (is : log ≡ log_at b i at) where
-  abbrev pub others : List (List ℕ)
-  others = left b n (i + 1) (at + length log)
+      go : (j : ℕ) → 0 < j → (nth c j (l ∷ ls) ≡ nth c (j - 1) ls) × (stands_at c j at (l ∷ ls) ≡ stands_at c (j - 1) (at + length l) ls)
+      go zero z = absurd (omega (arith, z))
+      go (suc j) z =
+          let less : j ≡ suc j - 1 = omega arith in
+          let one : nth c (suc j) (l ∷ ls) ≡ nth c j ls = rw (e, ltb-suc j (length (of_call c ls))) in
+          let there : stands_at c (suc j) at (l ∷ ls) ≡ stands_at c j (at + length l) ls = rw e in
+          (one ∙ ap (λ (m : ℕ). nth c m ls) less, there ∙ ap (λ (m : ℕ). stands_at c m (at + length l) ls) less)
 
-  pub walked : left b n i at ≡ log ∷ others
-  walked = one_left b n i at more ∙ ap (λ (l : List ℕ). l ∷ left b n (i + 1) (at + length l)) (sym is)
+-- What is behind it in the book.
+pub next-behind : (b : List ℕ) (at : ℕ) (l : List ℕ) (ls : List (List ℕ)) → joined (l ∷ ls) ≡ drop at b → joined ls ≡ drop (at + length l) b
+next-behind b at l ls e = sym (drop_at l (joined ls) (length l) refl) ∙ ap (drop (length l)) e ∙ drop-drop (length l) at b
 
-  pub as_read : area b at (length log) ≡ log
-  as_read = ap (λ (l : List ℕ). area b at (length l)) is ∙ whole-log b i at ∙ sym is
+-- The logs of a book, counted one by one from zeros on.
+module _ (b : List ℕ) (is : is_book b ≡ true) where
+  pub all_sound : every layout_ok (logs_in b) ≡ true
+  all_sound = (opened b is).sound
 
-  module _ (c k : ℕ) {x : Answer} {p : ℕ} (rest : nth c k (left b n i at) ≡ x) (place : stands_at c k at (left b n i at) ≡ p) where
-    pub found_here : call_byte log ≡ c → k ≡ 0 → (gives (area b at (length log)) ≡ x) × (at ≡ p)
-    found_here e z =
-        let h = here c log others at (eq-eqb (call_byte log) c e) in (
-          ap gives as_read ∙ sym h.0 ∙ ap (nth c 0) (sym walked) ∙ ap (λ (j : ℕ). nth c j (left b n i at)) (sym z) ∙ rest,
-          sym h.1 ∙ ap (stands_at c 0 at) (sym walked) ∙ ap (λ (j : ℕ). stands_at c j at (left b n i at)) (sym z) ∙ place,
-        )
-
-    pub passed-by : (call_byte log ≡ c → ⊥) → (nth c k others ≡ x) × (stands_at c k (at + length log) others ≡ p)
-    passed-by e =
-        let h = passed c log others at k (ne_eqb (call_byte log) c e) in
-        (sym h.0 ∙ ap (nth c k) (sym walked) ∙ rest, sym h.1 ∙ ap (stands_at c k at) (sym walked) ∙ place)
-
-    pub counted-off : call_byte log ≡ c → 0 < k → (nth c (k - 1) others ≡ x) × (stands_at c (k - 1) (at + length log) others ≡ p)
-    counted-off e h = go k refl
-      where
-        go : (j : ℕ) → j ≡ k → (nth c (k - 1) others ≡ x) × (stands_at c (k - 1) (at + length log) others ≡ p)
-        go zero z = absurd (omega (arith, h))
-        go (suc j) z =
-            let one = counted c log others at j (eq-eqb (call_byte log) c e) in
-            let less : k - 1 ≡ j = omega arith in (
-              ap (λ (m : ℕ). nth c m others) less ∙ sym one.0 ∙ ap (nth c (suc j)) (sym walked) ∙ ap (λ (m : ℕ). nth c m (left b n i at)) z ∙ rest,
-              ap (λ (m : ℕ). stands_at c m (at + length log) others) less ∙
-                  sym one.1 ∙
-                  ap (stands_at c (suc j) at) (sym walked) ∙
-                  ap (λ (m : ℕ). stands_at c m at (left b n i at)) z ∙
-                  place,
-            )
-
-  -- How many are of the call.
-  module _ (c : ℕ) where
-    pub one-of-call : call_byte log ≡ c → length (of_call c (left b n i at)) ≡ length (of_call c others) + 1
-    one-of-call e = ap (λ (ls : List (List ℕ)). length (of_call c ls)) walked ∙ rw (eq-eqb (call_byte log) c e) (omega arith)
-
-    pub none-of-call : (call_byte log ≡ c → ⊥) → length (of_call c (left b n i at)) ≡ length (of_call c others)
-    none-of-call e = ap (λ (ls : List (List ℕ)). length (of_call c ls)) walked ∙ rw (ne_eqb (call_byte log) c e)
+  pub from_zeros : raised_all (replicate 4176 0) (logs_in b) ≡ afresh (logs_in b)
+  from_zeros =
+      ap (λ (s : List ℕ). raised_all s (logs_in b)) (sym (zeros 4176 0)) ∙ one_by_one (logs_in b) (omega (arith, few-logs b (opened b is)))

@@ -1,25 +1,36 @@
 // Request Thirteen, "A book of logs with a summary": a book in lent bytes, and its summary in lent counters. What they are, is said in `bookkeeping`.
 #![tactic(auto)]
 
-ghost use Rattle.std.specs.Prelude.{◌≡◌, length, take};
-ghost use Rattle.bookkeeping.specs.Book.{is_book, of_call};
-ghost use Rattle.bookkeeping.specs.Layout.{logs_in};
+ghost use Rattle.std.specs.Prelude.{◌≡◌, ◌==◌, count_by, take};
+ghost use Rattle.bookkeeping.specs.Book.{is_book};
+ghost use Rattle.bookkeeping.specs.Layout.{call_byte, logs_in};
 ghost use Rattle.book.specs.Answered.{Finds, Adds, Begins};
+ghost use Rattle.book.specs.declared.BookError.TheVariants as error;
 
-use book_counters::{Counted, counted_at, raise};
-use book_layout::{MOST, call_in, is_book, log_count, log_size, start};
+use book_counters::{counted_at, raise};
+use book_layout::{MOST, call_in, is_book, log_count, logs_in, start};
 use exchange::types::Place;
 use wire::part;
+use wire::refusal::Refusal;
 use writer::{insert, put_header};
 
 pub mod summary;
 mod writer;
 
+// Why a book is not added to, or not summed up.
 #[derive(Clone, Copy)]
-pub enum Found {
-    // where the log stands in the book
-    Log(Place),
-    Refused(u8),
+pub enum BookError {
+    Refused(Refusal),
+    // what is lent is shorter than the longer book, or has not as many counters as a summary; it is left as it was
+    NoRoom,
+}
+
+impl From<Refusal> for BookError {
+    ghost from_gives = { λ refusal r. r ≡ error.Refused refusal };
+
+    fn from(refusal: Refusal) -> BookError {
+        BookError::Refused(refusal)
+    }
 }
 
 // Under which call and number the log is found, and the counter of the summary that counts it.
@@ -30,101 +41,76 @@ pub struct Entry {
     pub place: usize,
 }
 
-#[derive(Clone, Copy)]
-pub enum Added {
-    // how many bytes at the buffer's front are the book now
-    Book(usize, Entry),
-    Refused(u8),
-    // the buffer is shorter than the longer book, and is left as it was
-    NoRoom,
-}
-
-// "Finding the k-th log (from 0) of a call gives that log and no other"
-pub fn find(book: &[u8], call: u64, k: u64) -> Found
+// "Finding the k-th log (from 0) of a call gives that log and no other": where it stands in the book.
+#[tactic(auto, using(crate::proofs::Walks::no_book, crate::proofs::Walks::behind, crate::proofs::Walks::whole, crate::proofs::Walks::finds))]
+pub fn find(book: &[u8], call: u64, k: u64) -> Result<Place, Refusal>
     ensures { Finds book.now call k result }
 {
     if !is_book(book) {
-        return Found::Refused(25);
+        return Err(Refusal::NoBook);
     }
-    let count = log_count(book);
-    let mut at = start(count);
+    let mut at = start(log_count(book));
     let mut left = k;
-    let mut i = 0;
-    while i < count {
-        let log = part(book, at, log_size(book, i));
+    for log in logs_in(book) {
         if call_in(log) as u64 == call {
             if left == 0 {
-                return Found::Log(Place { at, len: log.len() });
+                return Ok(Place { at, len: log.len() });
             }
             left -= 1;
         }
         at += log.len();
-        i += 1;
     }
-    Found::Refused(24)
+    Err(Refusal::NoSuchLog)
 }
 
 // How many logs of a call are in the book.
 fn count_of(book: &[u8], call: u8) -> usize
-    ensures { result ≡ length (of_call call (logs_in book.now)) }
+    ensures { result ≡ count_by (λ log. call_byte log == call) (logs_in book.now) }
 {
-    let count = log_count(book);
-    let mut at = start(count);
-    let mut seen = 0;
-    let mut i = 0;
-    while i < count {
-        let log = part(book, at, log_size(book, i));
-        if call_in(log) == call {
-            seen += 1;
-        }
-        at += log.len();
-        i += 1;
-    }
-    seen
+    logs_in(book).filter(|log| call_in(log) == call).count()
 }
 
-// Adds a log to the book that the first n bytes of the buffer are, and raises its counter in the summary. "25 first, 23 before 22; the book unchanged",
-// and the summary. Other counters than a book's summary are raised where they reach, and stay at 65,535.
-pub fn add(book: &mut [u8], n: usize, log: &[u8], summary: &mut [u16]) -> Added
+// Adds a log to the book that the first n bytes of the buffer are, and raises its counter in the summary: how many bytes at the buffer's front
+// are the book now, and the log's entry. "25 first, 23 before 22; the book unchanged", and the summary. Other counters than a book's summary are
+// raised where they reach, and stay at 65,535.
+pub fn add(
+    book: &mut [u8],
+    n: usize,
+    log: &[u8],
+    summary: &mut [u16],
+) -> Result<(usize, Entry), BookError>
     ensures { Adds (take n book.old) log.now book.old summary.old result book.new summary.new }
 {
     let old = part(book, 0, n);
     let length = old.len();
     if !is_book(old) {
-        return Added::Refused(25);
+        return Err(BookError::Refused(Refusal::NoBook));
     }
     let call = call_in(log);
     let number = count_of(old, call);
-    match counted_at(log) {
-        Counted::BadLog => Added::Refused(23),
-        Counted::At(place) => {
-            if length + 8 > MOST {
-                return Added::Refused(22);
-            }
-            if log.len() > MOST - length - 8 {
-                return Added::Refused(22);
-            }
-            let longer = length + 8 + log.len();
-            if longer > book.len() {
-                return Added::NoRoom;
-            }
-            insert(book, length, log);
-            raise(summary, place);
-            Added::Book(
-                longer,
-                Entry {
-                    call,
-                    number,
-                    place,
-                },
-            )
-        }
+    let place = counted_at(log).ok_or(Refusal::BadLog)?;
+    let longer = length + 8 + log.len();
+    if longer > MOST {
+        return Err(BookError::Refused(Refusal::BookFull));
     }
+    if longer > book.len() {
+        return Err(BookError::NoRoom);
+    }
+    insert(book, length, log);
+    raise(summary, place);
+    Ok((
+        longer,
+        Entry {
+            call,
+            number,
+            place,
+        },
+    ))
 }
 
-// Puts the empty book at the buffer's front: how many bytes it is; or 0, where they do not fit and nothing changes.
-pub fn begin(book: &mut [u8]) -> usize
+// Puts the empty book at the buffer's front: how many bytes it is; or None, where they do not fit and nothing changes.
+pub fn begin(book: &mut [u8]) -> Option<usize>
     ensures { Begins book.old result book.new }
 {
-    if put_header(book, 0, 0) { 20 } else { 0 }
+    put_header(book, 0, 0).then_some(20)
 }

@@ -11,45 +11,19 @@ ghost use Rattle.book.specs.Moved.{moved};
 use book_layout::{call_in, log_count, log_size, start};
 use wire::copy_into;
 
-fn four_bytes(n: u32) -> [u8; 4]
-    ensures { result ≡ four n }
-{
-    [
-        (n / 65536 / 256) as u8,
-        (n / 65536 % 256) as u8,
-        (n % 65536 / 256) as u8,
-        (n % 65536 % 256) as u8,
-    ]
-}
-
 // "`UB`, 5542; version u16 = 1; directory: count u16, offset u16 = 20; logs: bytes u32, offset u32 = 20 + 8 × count; total length u32"
 fn header_bytes(count: u16, logs: u32) -> [u8; 20]
     requires { logs ≤ 65536 }
     ensures { result ≡ bookkeeping.header count logs }
 {
-    let at = 20 + count as u32 * 8;
-    let total = at + logs;
+    let at = start(count) as u32;
+    let [count_1, count_2] = count.to_be_bytes();
+    let [logs_1, logs_2, logs_3, logs_4] = logs.to_be_bytes();
+    let [at_1, at_2, at_3, at_4] = at.to_be_bytes();
+    let [total_1, total_2, total_3, total_4] = (at + logs).to_be_bytes();
     [
-        0x55,
-        0x42,
-        0,
-        1,
-        (count / 256) as u8,
-        (count % 256) as u8,
-        0,
-        20,
-        (logs / 65536 / 256) as u8,
-        (logs / 65536 % 256) as u8,
-        (logs % 65536 / 256) as u8,
-        (logs % 65536 % 256) as u8,
-        (at / 65536 / 256) as u8,
-        (at / 65536 % 256) as u8,
-        (at % 65536 / 256) as u8,
-        (at % 65536 % 256) as u8,
-        (total / 65536 / 256) as u8,
-        (total / 65536 % 256) as u8,
-        (total % 65536 / 256) as u8,
-        (total % 65536 % 256) as u8,
+        0x55, 0x42, 0, 1, count_1, count_2, 0, 20, logs_1, logs_2, logs_3, logs_4, at_1, at_2,
+        at_3, at_4, total_1, total_2, total_3, total_4,
     ]
 }
 
@@ -66,28 +40,9 @@ pub(crate) fn put_header(book: &mut [u8], count: u16, logs: u32) -> bool
 fn entry_bytes(call: u8, size: u16, at: u32) -> [u8; 8]
     ensures { result ≡ call ∷ 0 ∷ two size ++ four at }
 {
-    [
-        call,
-        0,
-        (size / 256) as u8,
-        (size % 256) as u8,
-        (at / 65536 / 256) as u8,
-        (at / 65536 % 256) as u8,
-        (at % 65536 / 256) as u8,
-        (at % 65536 % 256) as u8,
-    ]
-}
-
-// The len bytes from index `from` on, copied to 8 bytes further on, the last first.
-fn move_on(book: &mut [u8], from: usize, len: usize)
-    requires { from + len + 8 ≤ length book.old }
-    ensures { book.new ≡ with book.old (from + 8) (area book.old from len) }
-{
-    let mut i = len;
-    while i > 0 {
-        i -= 1;
-        book[from + i + 8] = book[from + i];
-    }
+    let [size_1, size_2] = size.to_be_bytes();
+    let [at_1, at_2, at_3, at_4] = at.to_be_bytes();
+    [call, 0, size_1, size_2, at_1, at_2, at_3, at_4]
 }
 
 // The offsets of the first entries, anew for logs that follow each other from index `first` on.
@@ -96,17 +51,16 @@ fn put_offsets(book: &mut [u8], count: u16, first: usize)
     ensures { book.new ≡ take 20 book.old ++ moved first count (drop 20 book.old) }
 {
     let mut at = first;
-    let mut i = 0;
-    while i < count {
+    // by number: an iterator over the logs would hold the bytes that are written here
+    for i in 0..count {
         let size = log_size(book, i);
-        let offset = four_bytes(at as u32);
-        copy_into(book, start(i) + 4, &offset);
+        copy_into(book, start(i) + 4, &(at as u32).to_be_bytes());
         at += size;
-        i += 1;
     }
 }
 
-// Puts a log behind the others of the book that the first n bytes are: the log, the other logs on by an entry, its entry, the others' offsets, the header.
+// Puts a log behind the others of the book that the first n bytes are: the log, the other logs on by an entry, its entry, the others' offsets,
+// the header.
 pub(crate) fn insert(book: &mut [u8], n: usize, log: &[u8])
     requires { (is_book (take n book.old) ≡ true) × (n + 8 + length log.now ≤ 65536) × (n + 8 + length log.now ≤ length book.old) }
     ensures { book.new ≡ with book.old 0 (book_of (logs_in (take n book.old) ++ (log.now ∷ []))) }
@@ -115,7 +69,7 @@ pub(crate) fn insert(book: &mut [u8], n: usize, log: &[u8])
     let logs_at = start(count);
     let logs = n - logs_at;
     copy_into(book, n + 8, log);
-    move_on(book, logs_at, logs);
+    book.copy_within(logs_at..n, logs_at + 8);
     let entry = entry_bytes(call_in(log), log.len() as u16, (n + 8) as u32);
     copy_into(book, logs_at, &entry);
     put_offsets(book, count, logs_at + 8);

@@ -1,3 +1,2 @@
 -- Laws behind the proofs of `book_counters`.
-pub mod Classes
 pub mod Unique

@@ -1,1 +1,2 @@
 -- The contracts of `book_layout` cite `bookkeeping` alone.
+pub mod Left

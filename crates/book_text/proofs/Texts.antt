@@ -1,23 +1,23 @@
--- Laws of the program's text in a lent buffer: numbers, a row, and the rows of a summary.
-use Prim.Native.Nat.{ℕ, zero, suc, ◌+◌, ◌-◌, ◌/◌, ◌%◌, ◌≤◌, ◌<◌, ◌^◌}
+-- Laws of the program's text in a lent buffer: the line of a counter, the lines of a summary, and how long they are.
+use Prim.Native.Nat.{ℕ, zero, suc, ◌+◌, ◌*◌, ◌/◌, ◌%◌, ◌≤◌, ◌<◌, ◌^◌}
 use native.Mathlib.Nat.{add-zero}
 use native.Mathlib.Numerals.{add-one}
 use native.Mathlib.Omega.{arith}
 use mathlib.Core.Bool.{Bool, true, false, cond}
 use mathlib.Core.List.{List, [], ◌∷◌, ◌++◌, append_assoc, append-nil}
 use mathlib.Core.Path.{◌≡◌, refl, sym, ◌∙◌, ap}
-use borrow.Author.Tests.{le-leb, lt-leb, eq-eqb, ne_eqb}
+use borrow.Author.Tests.{eq-eqb, ne_eqb}
 use lib.Dec.{leb}
 use lib.ListN.{length, get_or, take, length-append}
 use lib.Seq.{take-suc, length-take-le}
-use Rattle.rules.specs.Lines.{decimal, digit, spaced}
-use Rattle.text.specs.Written.{Put, put, Appended, counted}
-use Rattle.text.proofs.Numerals.{digits, decimal-small, decimal-big}
-use Rattle.text.proofs.Writing.{then, was-put}
+use Rattle.rules.specs.Lines.{decimal, spaced}
+use Rattle.std.specs.Bool.{then_some}
 use Rattle.wire.specs.Buffers.{with, Copied}
-use Rattle.bookkeeping.specs.Summary.{Class, negative, suppressed, timed_out, deviating, other, class_at}
+use Rattle.text.specs.Written.{put}
+use Rattle.text.proofs.Numerals.{digits}
+use Rattle.bookkeeping.specs.Summary.{Class, positive, negative, suppressed, timed_out, deviating, other, class_at}
 use Rattle.bookkeeping.specs.Said.{word, counter_line, lines_from}
-use Rattle.book_text.specs.Texts.{row_text, usage, Puts}
+use Rattle.book_text.specs.Texts.{usage, Puts}
 
 pub five-digits : (n : ℕ) → n < 65536 → length (decimal n) ≤ 5
 five-digits n h = digits 19 4 n (omega arith)
@@ -25,62 +25,49 @@ five-digits n h = digits 19 4 n (omega arith)
 pub twenty-digits : (n : ℕ) → n < 2 ^ 64 → length (decimal n) ≤ 20
 twenty-digits n h = digits 19 19 n (omega arith)
 
--- A call has one digit or two.
-pub one-digit : (call : ℕ) → call < 10 → decimal call ≡ digit call ∷ []
-one-digit call h = decimal-small call h
+-- The line of a counter that is not 0.
+pub one-line : (place number : ℕ) → (number ≡ 0 → ⊥) →
+    counter_line place number ≡ decimal (place / 261) ++ spaced (word (class_at (place % 261))) ++ spaced (decimal number) ++ (10 ∷ [])
+one-line place number some = rw (ne_eqb number 0 some)
 
-pub two_digits : (call : ℕ) → 9 < call → call < 16 → decimal call ≡ 49 ∷ digit (call - 10) ∷ []
-two_digits call low high =
-    let tens : call / 10 ≡ 1 = omega arith in
-    let ones : call % 10 ≡ call - 10 = omega arith in
-    decimal-big call (omega arith) (omega arith) ∙ rw (tens, ones, decimal-small 1 (omega arith))
+pub no-line : (place number : ℕ) → number ≡ 0 → counter_line place number ≡ []
+no-line place number none = rw (eq-eqb number 0 none)
 
-pub two-at-most : (call : ℕ) → call < 16 → length (decimal call) ≤ 2
-two-at-most call h = digits 19 1 call (omega arith)
+-- How long it is.
+word-long : (c : Class) → length (word c) ≤ 11
+word-long positive = omega arith
+word-long (negative code) = omega arith
+word-long suppressed = omega arith
+word-long timed_out = omega arith
+word-long deviating = omega arith
+word-long other = omega arith
 
--- A row: the call, the word and the number, the newline.
-module _ (l m o k w : List ℕ) (at call number a b r : ℕ) (small : call < 16) (few : number < 65536) (room : at + length w + 9 ≤ length l) where
-  row_ends : Put l at (decimal call) m a → length m ≡ length l → Appended (counted w number) m a b o → Put m a (counted w number) o b
-  row_ends p same q =
-      let long = length-append w (spaced (decimal number)) in
-      was-put (counted w number) m a (omega (arith, p.next, two-at-most call small, five-digits number few, same, room, long)) q
-
-  pub before-newline : Put l at (decimal call) m a → length m ≡ length l → Appended (counted w number) m a b o → b + 1 ≤ at + length w + 9
-  before-newline p same q =
-      let long = length-append w (spaced (decimal number)) in
-      omega (arith, p.next, (row_ends p same q).next, two-at-most call small, five-digits number few, long)
-
-  pub row : Put l at (decimal call) m a → length m ≡ length l → Appended (counted w number) m a b o → length o ≡ length l → Put o b (10 ∷ []) k r
-      → Put l at (row_text call w number) k r
-  row p same q same' s =
-      let end = before-newline p same q in
-      let two = then (omega (arith, p.next, two-at-most call small, room)) p (row_ends p same q) in
-      then (omega (arith, end, room)) two s
-
--- The line of a counter that is not 0, by its class.
-pub counter : (l m w : List ℕ) (at place number r : ℕ) (c : Class) → (number ≡ 0 → ⊥) → class_at (place % 261) ≡ c → w ≡ spaced (word c)
-    → Put l at (row_text (place / 261) w number) m r → Put l at (counter_line place number) m r
-counter l m w at place number r c some is same p =
-    let regroup : decimal (place / 261) ++ (spaced (word c) ++ spaced (decimal number)) ++ (10 ∷ []) ≡ decimal (place / 261) ++ spaced (word c) ++ spaced
-    (decimal number) ++ (10 ∷ []) =
-    ap (λ (t : List ℕ). t ++ (10 ∷ [])) (sym (append_assoc (decimal (place / 261)) (spaced (word c)) (spaced (decimal number))))
+pub line-long : (place number : ℕ) → (0 < number → place < 4176) → number < 65536 → length (counter_line place number) ≤ 24
+line-long place zero h few = omega (arith, ap (λ (l : List ℕ). length l) (no-line place 0 refl))
+line-long place (suc n) h few =
+    let call = decimal (place / 261) in
+    let class = word (class_at (place % 261)) in
+    let number = decimal (suc n) in
+    let small : length call ≤ 2 = digits 19 1 (place / 261) (omega (arith, h (omega arith))) in
+    let sum : length (call ++ spaced class ++ spaced number ++ (10 ∷ [])) ≤ 24 =
+    omega (
+      arith,
+      length-append (call ++ spaced class ++ spaced number) (10 ∷ []),
+      length-append (call ++ spaced class) (spaced number),
+      length-append call (spaced class),
+      small,
+      word-long (class_at (place % 261)),
+      five-digits (suc n) few,
+    )
     in
-    let line : row_text (place / 261) w number ≡ counter_line place number =
-    ap (λ (t : List ℕ). row_text (place / 261) t number) same ∙ regroup ∙ rw (ne_eqb number 0 some, is)
-    in
-    rw (← line) p
+    omega (arith, sum, ap (λ (l : List ℕ). length l) (one-line place (suc n) (λ e. omega arith)))
 
-pub no-counter : (l : List ℕ) (at place number : ℕ) → number ≡ 0 → Put l at [] l at → Put l at (counter_line place number) l at
-no-counter l at place number none p = rw (eq-eqb number 0 none) p
-
--- The class of a place in a row.
-pub is_negative : (i : ℕ) → 0 < i → i ≤ 256 → class_at i ≡ negative (i - 1)
-is_negative i some few = rw (ne_eqb i 0 (λ z. omega arith), le-leb i 256 few)
-
-pub is_last : (i k : ℕ) (c : Class) → i ≡ 257 + k → get_or (suppressed ∷ timed_out ∷ deviating ∷ []) k other ≡ c → class_at i ≡ c
-is_last i k c e is =
-    let less : i - 257 ≡ k = omega arith in
-    rw (ne_eqb i 0 (λ z. omega arith), lt-leb i 256 (omega arith), less) is
+pub lines-long : (place : ℕ) (ns : List ℕ) → place + length ns ≤ 4176 → ((k : ℕ) → get_or ns k 0 < 65536) → length (lines_from place ns) ≤ length ns * 24
+unfolding lines_from
+lines-long place [] h few = omega arith
+lines-long place (n ∷ ns) h few =
+    let rest = lines-long (suc place) ns (omega arith) (λ k. few (suc k)) in
+    omega (arith, length-append (counter_line place n) (lines_from (suc place) ns), line-long place n (λ some. omega arith) (few 0), rest)
 
 -- One counter more.
 lines_snoc : (i : ℕ) (ns : List ℕ) (n : ℕ) → lines_from i (ns ++ (n ∷ [])) ≡ lines_from i ns ++ counter_line (i + length ns) n
@@ -107,15 +94,14 @@ inside (x ∷ s) zero h = omega arith
 inside (x ∷ s) (suc i) h = omega (arith, inside s i h)
 
 -- The line of wrong usage.
-module _ (before after : List ℕ) where
-  pub usage-put : Copied before 0 usage true after → Puts (leb 64 (length before)) before usage after 64
-  unfolding usage put with
-  usage-put c =
-      let room : leb 64 (length before) ≡ true = sym c.told in
-      rw room (record { next = refl; line = c.buffer ∙ ap (λ (b : Bool). cond b (put before 0 usage) before) room })
-
-  pub usage-not-put : Copied before 0 usage false after → Puts (leb 64 (length before)) before usage after 0
-  unfolding usage put with
-  usage-not-put c =
-      let none : leb 64 (length before) ≡ false = sym c.told in
-      rw none (c.buffer ∙ ap (λ (b : Bool). cond b (put before 0 usage) before) none, refl)
+pub usage-put : (before after : List ℕ) (done : Bool) → Copied before 0 usage done after → Puts (leb 64 (length before)) before usage after (then_some done 64)
+unfolding usage put with
+usage-put before after done c = go (leb 64 (length before)) refl
+  where
+    go : (room : Bool) → leb 64 (length before) ≡ room → Puts room before usage after (then_some done 64)
+    go true e =
+        let told : done ≡ true = c.told ∙ e in
+        rw told (record { next = refl; line = c.buffer ∙ ap (λ (b : Bool). cond b (put before 0 usage) before) e })
+    go false e =
+        let told : done ≡ false = c.told ∙ e in
+        rw told (c.buffer ∙ ap (λ (b : Bool). cond b (put before 0 usage) before) e, refl)

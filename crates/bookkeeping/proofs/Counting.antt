@@ -2,19 +2,19 @@
 use Prim.Native.Nat.{ℕ, zero, suc, ◌+◌, ◌-◌, ◌*◌, ◌≤◌, ◌<◌}
 use native.Mathlib.Nat.{add-zero, add-suc, suc-add, zero-add}
 use native.Mathlib.Omega.{arith}
-use mathlib.Core.Bool.{Bool, true, false, cond, ◌&&◌, ◌||◌}
+use mathlib.Core.Bool.{Bool, true, false, cond}
 use mathlib.Core.List.{List, [], ◌∷◌, ◌++◌, append-nil}
 use mathlib.Core.Logic.{◌≢◌}
 use mathlib.Core.Path.{◌≡◌, refl, sym, ◌∙◌, ap, subst}
 use lib.Dec.{leb, eqb}
-use lib.ListN.{length, get_or, set, length-set, length-append}
+use lib.ListN.{length, get_or, set, length-set, length-append, replicate}
 use lib.Seq.{append_snoc, ext_get_or, get_or-set_same, get_or-set_other}
 use borrow.Author.Tests.{eqb-true, eqb-false, leb-true, leb-false, lt-ltb, ne_eqb}
 use Rattle.rules.specs.Bytes.{every}
 use Rattle.rules.specs.Events.{Form, plain, addressed}
 use Rattle.rules.specs.Logs.{header_size, form_in, header_of, laid_out, layout_ok, fields_ok, uses_of}
 use Rattle.rules.proofs.Judging.{both}
-use Rattle.bookkeeping.specs.Layout.{joined, book_of, logs_in}
+use Rattle.bookkeeping.specs.Layout.{joined, logs_in}
 use Rattle.bookkeeping.specs.Book.{is_book, Answer, refused, gives, add, Kept, kept, after, adding, adding_all}
 use Rattle.bookkeeping.specs.Summary.{suppressed, timed_out, deviating, other, slot, class_at, place_of, count, tally, afresh, more, raised}
 use Rattle.bookkeeping.specs.Promises.{SummaryStays, CountersFit, SaysItsClass}
@@ -91,15 +91,11 @@ behind done (l ∷ ls) h =
     behind (done ++ (l ∷ [])) ls (omega (arith, length-append done (l ∷ []))) ∙
     ap afresh snoc
 
--- Counters of no logs: none, and one more.
-pub none_yet : [] ≡ tally [] 0 0
+-- Counters of no logs are zeros.
+pub zeros : (n i : ℕ) → tally [] n i ≡ replicate n 0
 unfolding tally
-none_yet = refl
-
-pub one-zero-more : (n i : ℕ) → tally [] n i ++ (0 ∷ []) ≡ tally [] (suc n) i
-unfolding tally
-one-zero-more zero i = refl
-one-zero-more (suc n) i = ap (λ (l : List ℕ). 0 ∷ l) (one-zero-more n (suc i))
+zeros zero i = refl
+zeros (suc n) i = ap (λ (l : List ℕ). 0 ∷ l) (zeros n (suc i))
 
 pub one_by_one : (ls : List (List ℕ)) → length ls < 65535 → raised_all (afresh []) ls ≡ afresh ls
 one_by_one ls h = behind [] ls (omega arith)

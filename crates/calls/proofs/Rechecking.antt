@@ -1,19 +1,13 @@
 -- What was heard, checked again: a positive by its checks, any other outcome as it is.
 use Prim.Native.Nat.{ℕ}
-use mathlib.Core.Path.{◌≡◌, refl, sym, ◌∙◌, ap, subst⁻¹}
+use mathlib.Core.Path.{◌≡◌, refl}
 use mathlib.Core.List.{List}
-use Rattle.rules.specs.After.{checked}
 use Rattle.rules.specs.Answers as rules
 use Rattle.rules.specs.Answers.{if_positive}
-use Rattle.exchange.specs.Meaning.{part_of, outcome_of}
+use Rattle.exchange.specs.Meaning.{outcome_of}
 use Rattle.exchange.specs.Places.{InsideOutcome}
-use Rattle.exchange.specs.declared.types.Answer.{Answer}
 use Rattle.exchange.specs.declared.types.Outcome.{Outcome}
 use Rattle.exchange.specs.declared.types.Outcome.TheVariants as outcome
-use Rattle.exchange.specs.declared.types.Place.{Place}
-use Rattle.checks.specs.Answered.{asked, answered, Checked}
-use Rattle.calls.specs.Concluded.{Rechecked}
-use Rattle.calls.specs.declared.Ask.{Ask}
 
 abbrev pub NotPositive : Outcome → Type 0
 NotPositive (outcome.PositiveResponse p) = ⊥
@@ -49,15 +43,3 @@ module _ (replies : List ℕ) where
   nowhere (outcome.Fault e) n = n
   nowhere (outcome.Refused k) n = n
   nowhere outcome.PendingLimit n = n
-
-  module _ {ask : Ask} {a s : List ℕ} {heard : Answer} where
-    pub as-heard : {o : Outcome} → NotPositive o → heard.outcome ≡ o → Rechecked ask a s replies heard heard.outcome
-    as-heard n e = record { means = stays heard.outcome (subst⁻¹ NotPositive e n) _; inside = nowhere heard.outcome (subst⁻¹ NotPositive e n) }
-
-    pub checked-again : {p : Place} {r : Outcome} → heard.outcome ≡ outcome.PositiveResponse p
-        → Checked ask.strict ask.call a s replies heard.reply r → Rechecked ask a s replies heard r
-    checked-again e k = record {
-      means = k.means ∙
-          sym (ap (λ (o : Outcome). if_positive (outcome_of replies o) (λ p. answered replies (checked ask.strict (asked ask.call a s) (part_of replies heard.reply))) (outcome_of replies o)) e);
-      inside = k.inside;
-    }

@@ -6,6 +6,8 @@ use mathlib.Core.Path.{◌≡◌, refl, sym, ◌∙◌, ap, subst, subst⁻¹}
 use mathlib.Core.List.{List, []}
 use mathlib.Core.Option.{Option}
 use lib.Dec.{eqb}
+use Rattle.std.specs.Prelude.{Ok, Err}
+use Rattle.std.specs.Prelude as returned
 use lib.ListN.{length, take}
 use Rattle.rules.specs.After.{checked, after, number_of, adopted, timing_of}
 use Rattle.rules.specs.Answers.{Outcome, positive, suppressed, negative, timeout, pending_limit, disconnected, transport, fault, refused, if_positive}
@@ -22,7 +24,7 @@ use Rattle.rules.specs.Settings.{Setting, Lent}
 use Rattle.rules.proofs.Inside.{Headed, exchange-headed}
 use Rattle.rules.proofs.Unrefused.{exchange-unrefused}
 use Rattle.exchange.specs.Guarded.{guarded}
-use Rattle.exchange.specs.Meaning.{part_of, outcome_of, answer_of, asked_of, sub_of, timed}
+use Rattle.exchange.specs.Meaning.{part_of, outcome_of, answer_of, asked_of, option_of, timed}
 use Rattle.exchange.specs.Places.{Inside, Answers}
 use Rattle.exchange.specs.declared.types.Answer.{Answer}
 use Rattle.exchange.specs.declared.types.Outcome as outcome
@@ -34,6 +36,9 @@ use Rattle.requests.specs.declared.Prepared.{Prepared}
 use Rattle.requests.specs.Meaning.{call_of, bare}
 use Rattle.requests.specs.Prepared.{refusal_of, prepared_of, pieces_of, Written}
 use Rattle.requests.specs.Rows.{row_of}
+use Rattle.wire.specs.Refusing.{refusal_number}
+use Rattle.wire.specs.declared.refusal.Refusal.{Refusal}
+use Rattle.wire.specs.declared.refusal.Refusal.TheVariants.{Events}
 use Rattle.requests.proofs.Callers.{refusal_is, passes, none-of-nine, is-ready, sends, stands}
 use Rattle.requests.proofs.Refusals as refusing
 use Rattle.requests.proofs.Table.{number_is, sid-is, sub_is, sent-sub}
@@ -124,6 +129,17 @@ pub record Given : Type 0 where
   pub d : List ℕ
   pub lent : Lent
 
+-- The same of what a call of `run` lends.
+abbrev pub given-of : Timing → Ask → List ℕ → List ℕ → List ℕ → List ℕ → List ℕ → List ℕ → Given
+given-of session ask request a s d events replies = record {
+  session = session;
+  ask = ask;
+  a = a;
+  s = s;
+  d = d;
+  lent = lent_of ask.channel request events replies;
+}
+
 module _ (g : Given) where
   abbrev session : Timing
   session = g.session
@@ -150,27 +166,32 @@ module _ (g : Given) where
   right = answered w c l (request_of ask.quiet c) (after ask.strict c reached)
 
   -- What `prepare` says of it.
-  module _ {p : Prepared} (is : p ≡ prepared_of ask.call ask.quiet g.a g.s g.d (length l.buffer)) where
-    told : p.refusal ≡ refusal_of ask.quiet c (length l.buffer)
-    told = ap (λ (q : Prepared). q.refusal) is ∙ refusal_is ask.call ask.quiet g.a g.s g.d (length l.buffer)
+  abbrev Prepares : returned.Result Prepared ℕ → Type 0
+  Prepares r = r ≡ prepared_of ask.call ask.quiet g.a g.s g.d (length l.buffer)
 
-    pub turned-away : (p.refusal ≡ 0 → ⊥) → Called ask.strict w c l (refused_of session p.refusal) l.buffer
-    unfolding call
-    turned-away h = record {
-      means = sym (refusing.refused (refuse w l) ask.quiet c l.buffer l.form l.events l.replies right p.refusal told h);
-      outcome = tt;
-      reply = omega arith;
-    }
+  pub turned-away : (r : Refusal) → Prepares (Err (refusal_number r)) → Called ask.strict w c l (refused_of session r) l.buffer
+  unfolding call
+  turned-away r is =
+      let told = refusal_is ask.call ask.quiet g.a g.s g.d (length l.buffer) is in
+      record {
+        means = sym (refusing.refused (refuse w l) ask.quiet c l.buffer l.form l.events l.replies right (refusal_number r) told.0 told.1);
+        outcome = tt;
+        reply = omega arith;
+      }
 
-    module _ (none_yet : p.refusal ≡ 0) {heard : Answer} (exchanged : Answers l.replies heard (judged (asked_of (record { sid = p.sid; sub = p.sub; timing = session; limit = ask.limit })))) where
+  module _ {p : Prepared} (is : Prepares (Ok p)) where
+    told : 0 ≡ refusal_of ask.quiet c (length l.buffer)
+    told = sym (none-of-nine ask.call ask.quiet g.a g.s g.d l.buffer is)
+
+    module _ {heard : Answer} (exchanged : Answers l.replies heard (judged (asked_of (record { sid = p.sid; sub = p.sub; timing = session; limit = ask.limit })))) where
       -- The exchange was asked with the call's SID and sub-function.
       answers-it : Answers l.replies heard (judged (asked w c))
       answers-it =
-          let ready = is-ready ask.call ask.quiet g.a g.s g.d l.buffer is none_yet in
+          let ready = is-ready ask.call ask.quiet g.a g.s g.d l.buffer is in
           let k = ask.call in
           let sid : p.sid ≡ sid_of c = ap (λ (q : Prepared). q.sid) ready ∙ sym (sid-is (rules.given g.a) (rules.given g.s) g.d k) in
-          let sub : sub_of p.sub ≡ with_bit7 ask.quiet (rules.sub_of c) =
-          ap (λ (q : Prepared). sub_of q.sub) ready ∙
+          let sub : option_of p.sub ≡ with_bit7 ask.quiet (rules.sub_of c) =
+          ap (λ (q : Prepared). option_of q.sub) ready ∙
           sent-sub ask.quiet (row_of k).sub ∙
           ap (with_bit7 ask.quiet) (sym (sub_is (rules.given g.a) (rules.given g.s) g.d k))
           in
@@ -182,12 +203,12 @@ module _ (g : Given) where
       tested : {b : Bool} → b ≡ is_refused (outcome_of [] heard.outcome) → is_refused (judged (asked w c)).outcome ≡ b
       tested e = ap is_refused (sym outcome-heard) ∙ sym (refused-anywhere l.replies heard.outcome) ∙ sym e
 
-      pub turned-by-events : {b : Bool} → b ≡ is_refused (outcome_of [] heard.outcome) → b ≡ true → Called ask.strict w c l (refused_of session 10) l.buffer
+      pub turned-by-events : {b : Bool} → b ≡ is_refused (outcome_of [] heard.outcome) → b ≡ true → Called ask.strict w c l (refused_of session Events) l.buffer
       unfolding call
       turned-by-events e h =
           let broken = breaks ask.strict (asked w c) w.overall l (tested e ∙ h) in
           record {
-            means = sym (refusing.outside (refuse w l) ask.quiet c l.buffer l.form l.events l.replies right p.refusal told none_yet broken);
+            means = sym (refusing.outside (refuse w l) ask.quiet c l.buffer l.form l.events l.replies right 0 told refl broken);
             outcome = tt;
             reply = omega arith;
           }
@@ -203,7 +224,7 @@ module _ (g : Given) where
           let p' = part_of l.replies heard.reply in
           let q = outcome_of l.replies heard.outcome in
           let headed : Headed (asked w c).sub p' q = subst⁻¹ (λ (x : answers.Answer). Headed (asked w c).sub x.reply x.outcome) is-reached (exchange-headed strict (asked w c) w.overall (events_in l)) in
-          let none_of = none-of-nine ask.call ask.quiet g.a g.s g.d l.buffer is none_yet in
+          let none_of = none-of-nine ask.call ask.quiet g.a g.s g.d l.buffer is in
           let full : checked strict (checking.asked ask.call g.a g.s) p' ≡ checked strict c p' =
           checked-beside strict (take 15 g.a) (take 15 g.s) g.d ask.call p' ∙
           ap (λ (y : rules.Call). checked strict y p') (as-sent ask.call g.a g.s g.d (passes ask.quiet c (length l.buffer) none_of).0)
@@ -224,8 +245,8 @@ module _ (g : Given) where
           timing-beside ask.call g.a g.s g.d (outcome_of l.replies r.answer.outcome) ask.server (timed session) ∙
           ap (λ (o : Outcome). timing_of ask.server c o (timed session)) outcome
           in
-          let sent = k.sent ∙ sends ask.call ask.quiet g.a g.s g.d l.buffer is none_yet in
-          let written = stands ask.call ask.quiet g.a g.s g.d l.buffer is none_yet writes in
+          let sent = k.sent ∙ sends ask.call ask.quiet g.a g.s g.d l.buffer is in
+          let written = stands ask.call ask.quiet g.a g.s g.d l.buffer is writes in
           let told-answer : answer_of l.replies r.answer ≡ after strict c (answer_of l.replies heard) = λ i. answers.answer (outcome i) (k.time i) (k.events i) (k.notices i) (part_of l.replies (k.reply i)) in
           let whole : result_of l.replies r after' ≡ answered w c l (request_of ask.quiet c) (after strict c (answer_of l.replies heard)) =
           λ i. record { answer = told-answer i; number = number i; sent = sent i; timing = timing i; buffer = written i }
@@ -234,7 +255,7 @@ module _ (g : Given) where
             means =
                 whole ∙
                 ap (λ (x : answers.Answer). answered w c l (request_of ask.quiet c) (after strict c x)) is-reached ∙
-                sym (refusing.accepted (refuse w l) ask.quiet c l.buffer l.form l.events l.replies right p.refusal told none_yet kept);
+                sym (refusing.accepted (refuse w l) ask.quiet c l.buffer l.form l.events l.replies right 0 told refl kept);
             outcome = k.outcome.inside;
             reply = subst⁻¹ (λ x. Inside l.replies x) k.reply answers-it.reply;
           }

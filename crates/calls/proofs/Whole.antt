@@ -29,7 +29,6 @@ use Rattle.original.specs.Shown.{called}
 use Rattle.original.proofs.Demand2.{demand2}
 use Rattle.exchange.specs.Meaning.{answer_of}
 use Rattle.exchange.specs.Places.{Answers}
-use Rattle.exchange.specs.declared.types.Answer.{Answer}
 use Rattle.exchange.proofs.Unique.{answers-unique}
 use Rattle.checks.proofs.Unique.{timing-unique}
 use Rattle.calls.specs.Meaning.{setting_of, result_of, in_timing, Called}

@@ -3,11 +3,10 @@ use Prim.Native.Nat.{ℕ, ◌-◌}
 use native.Mathlib.Omega.{arith}
 use mathlib.Core.Bool.{Bool, true, false, cond, false≢true, true≢false}
 use mathlib.Core.Path.{◌≡◌, refl, sym, ◌∙◌, ap, ap₂}
-use mathlib.Core.List.{List, [], ◌++◌}
+use mathlib.Core.List.{List, ◌++◌}
 use lib.Dec.{eqb}
 use lib.ListN.{take, drop, replicate}
 use lib.Seq.{take_at}
-use borrow.Author.Tests.{eqb-true, eq-eqb, ne_eqb}
 use Rattle.rules.specs.After.{checked}
 use Rattle.rules.specs.Bytes.{bytes_of}
 use Rattle.rules.specs.Calls as rules
@@ -16,7 +15,11 @@ use Rattle.rules.specs.InOrder.{judge}
 use Rattle.rules.specs.Client.{Result, refuse, call}
 use Rattle.rules.specs.Refusals.{width}
 use Rattle.rules.specs.Settings.{Setting, Lent}
-use Rattle.wire.specs.Memory.{memory_bytes, refused}
+use Rattle.std.specs.Prelude as returned
+use Rattle.std.specs.Prelude.{Ok, Err}
+use Rattle.wire.specs.Memory.{memory_bytes}
+use Rattle.wire.specs.Refusing.{refusal_number}
+use Rattle.wire.specs.declared.refusal.Refusal.{Refusal}
 use Rattle.wire.specs.declared.MemoryBytes.{MemoryBytes}
 use Rattle.requests.specs.Meaning.{call_from}
 use Rattle.requests.specs.Prepared.{first}
@@ -27,7 +30,7 @@ use Rattle.rules.proofs.Judging.{judge-append}
 use Rattle.rules.proofs.Wide.{bytes-length}
 use Rattle.requests.proofs.Judging.{by_number}
 use Rattle.requests.proofs.Refusals.{non-zero-width}
-use Rattle.calls.specs.Meaning.{setting_of, refused_of, Called}
+use Rattle.calls.specs.Meaning.{setting_of, refused_of, no_bytes, Called}
 use Rattle.exchange.specs.declared.types.Timing.{Timing}
 use Rattle.calls.specs.declared.Ask.{Ask}
 use Rattle.calls.specs.declared.Answered.{Answered}
@@ -79,25 +82,33 @@ module _ (strict : Bool) (w : Setting) (l : Lent) (a s : Field) (d : List ℕ) w
 
 -- What `memory_bytes` answers: the first refusal of the field, or its bytes.
 module _ (v w : ℕ) (wide : Bool) where
-  told : memory_bytes v w wide ≡ cond (eqb (first (width (alfid v w wide))) 0) (record { refusal = 0; len = w; bytes = bytes_of w v ++ replicate (15 - w) 0 }) (refused (first (width (alfid v w wide))))
+  abbrev first-of : ℕ
+  first-of = first (width (alfid v w wide))
+
+  abbrev whole : MemoryBytes
+  whole = record { len = w; bytes = bytes_of w v ++ replicate (15 - w) 0 }
+
+  told : memory_bytes v w wide ≡ cond (eqb first-of 0) (Ok whole) (Err first-of)
   unfolding memory_bytes
-  told = by_number refused (width (alfid v w wide)) _ (non-zero-width (alfid v w wide))
+  told = by_number Err (width (alfid v w wide)) _ (non-zero-width (alfid v w wide))
 
-  module _ {x : MemoryBytes} (is : x ≡ memory_bytes v w wide) where
-    refusal-of : first (width (alfid v w wide)) ≡ x.refusal
-    refusal-of = sym (ap (λ (y : MemoryBytes). y.refusal) (is ∙ told) ∙ go (first (width (alfid v w wide))) (eqb (first (width (alfid v w wide))) 0) refl)
-      where
-        go : (f : ℕ) (b : Bool) → eqb f 0 ≡ b → (cond b (record { refusal = 0; len = w; bytes = bytes_of w v ++ replicate (15 - w) 0 }) (refused f)).refusal ≡ f
-        go f true t = sym (eqb-true f 0 t)
-        go f false t = refl
+  refusal-of : {n : ℕ} → Err n ≡ memory_bytes v w wide → (eqb first-of 0 ≡ false) × (first-of ≡ n)
+  refusal-of {n} is = go (eqb first-of 0) refl (is ∙ told)
+    where
+      go : (b : Bool) → eqb first-of 0 ≡ b → Err n ≡ cond b (Ok whole) (Err first-of)
+          → (eqb first-of 0 ≡ false) × (first-of ≡ n)
+      go true t e = absurd (let z : ◌≡◌ {A = ℕ} 0 1 = cc in omega arith)
+      go false t e = (t, cc)
 
-    bytes-of : x.refusal ≡ 0 → take x.len (drop 0 x.bytes) ≡ bytes_of w v
-    bytes-of passed =
-        let whole : x ≡ record { refusal = 0; len = w; bytes = bytes_of w v ++ replicate (15 - w) 0 } =
-        is ∙ told ∙ rw (eq-eqb (first (width (alfid v w wide))) 0 (refusal-of ∙ passed))
-        in
-        ap (λ (y : MemoryBytes). take y.len y.bytes) whole ∙
-        take_at (bytes_of w v) (replicate (15 - w) 0) w (bytes-length w v)
+  bytes-of : {x : MemoryBytes} → Ok x ≡ memory_bytes v w wide → (eqb first-of 0 ≡ true) × (take x.len (drop 0 x.bytes) ≡ bytes_of w v)
+  bytes-of {x} is = go (eqb first-of 0) refl (is ∙ told)
+    where
+      go : (b : Bool) → eqb first-of 0 ≡ b → Ok x ≡ cond b (Ok whole) (Err first-of)
+          → (eqb first-of 0 ≡ true) × (take x.len (drop 0 x.bytes) ≡ bytes_of w v)
+      go true t e =
+          let same : x ≡ whole = cc in
+          (t, ap (λ (y : MemoryBytes). take y.len y.bytes) same ∙ take_at (bytes_of w v) (replicate (15 - w) 0) w (bytes-length w v))
+      go false t e = absurd (let z : ◌≡◌ {A = ℕ} 0 1 = cc in omega arith)
 
 -- What the `alfid` form is given: the session, what is asked, address and size as numbers with their widths, the wide setting, data, and what is lent.
 pub record Given : Type 0 where
@@ -110,6 +121,10 @@ pub record Given : Type 0 where
   pub wide : Bool
   pub d : List ℕ
   pub lent : Lent
+
+-- The same of what a call of `run_alfid` lends.
+abbrev pub given-of : Timing → Ask → ℕ → ℕ → ℕ → ℕ → Bool → List ℕ → Lent → Given
+given-of session ask v u w w' wide d lent = record { session = session; ask = ask; v = v; u = u; w = w; w' = w'; wide = wide; d = d; lent = lent }
 
 abbrev address : Given → Field
 address g = alfid g.v g.w g.wide
@@ -133,8 +148,8 @@ module _ (g : Given) where
   abbrev Means : rules.Call → Answered → List ℕ → Type 0
   Means c r b = Called g.ask.strict setting c g.lent r b
 
-  turned : {n : ℕ} → done asked ≡ refuse setting g.lent n → Means asked (refused_of g.session n) g.lent.buffer
-  turned e = record { means = sym e; outcome = tt; reply = omega arith }
+  turned : (r : Refusal) → done asked ≡ refuse setting g.lent (refusal_number r) → Means asked (refused_of g.session r) g.lent.buffer
+  turned r e = record { means = sym e; outcome = tt; reply = omega arith }
 
   moved : {c : rules.Call} {r : Answered} {b : List ℕ} → done c ≡ done asked → Means c r b → Means asked r b
   moved e k = record { means = k.means ∙ e; outcome = k.outcome; reply = k.reply }
@@ -152,45 +167,54 @@ module _ (g : Given) where
         by_number (refuse setting g.lent) (width (address g)) _ (non-zero-width (address g)) ∙
         rw (by_number (refuse setting g.lent) (width (size g)) (done (with' (given (bytes_of g.w g.v)) (given (bytes_of g.w' g.u)))) (non-zero-width (size g)))
 
-    module _ {a : MemoryBytes} (as-address : a ≡ memory_bytes g.v g.w g.wide) where
-      address-refused : (a.refusal ≡ 0 → ⊥) → Means asked (refused_of g.session a.refusal) g.lent.buffer
-      address-refused h = turned (by-numbers ∙ rw (refusal-of _ _ _ as-address, ne_eqb _ 0 h))
+    address-refused : (r : Refusal) → Err (refusal_number r) ≡ memory_bytes g.v g.w g.wide → Means asked (refused_of g.session r) g.lent.buffer
+    address-refused r is =
+        let z = refusal-of _ _ _ is in
+        turned r (by-numbers ∙ rw (z.0, z.1))
 
-      module _ (address-passed : a.refusal ≡ 0) {s : MemoryBytes} (as-size : s ≡ memory_bytes g.u g.w' g.wide) where
-        size-refused : (s.refusal ≡ 0 → ⊥) → Means asked (refused_of g.session s.refusal) g.lent.buffer
-        size-refused h = turned (by-numbers ∙ rw (refusal-of _ _ _ as-address, address-passed, refusal-of _ _ _ as-size, ne_eqb _ 0 h))
+    module _ {a : MemoryBytes} (as-address : Ok a ≡ memory_bytes g.v g.w g.wide) where
+      size-refused : (r : Refusal) → Err (refusal_number r) ≡ memory_bytes g.u g.w' g.wide → Means asked (refused_of g.session r) g.lent.buffer
+      size-refused r is =
+          let z = refusal-of _ _ _ is in
+          turned r (by-numbers ∙ rw ((bytes-of _ _ _ as-address).0, z.0, z.1))
 
-        as_bytes : {address' size' b : List ℕ} {r : Answered} → s.refusal ≡ 0
-            → address' ≡ take a.len (drop 0 a.bytes) → size' ≡ take s.len (drop 0 s.bytes)
-            → Means (with' (given address') (given size')) r b → Means asked r b
-        as_bytes size-passed x y =
-            let in_bytes : done asked ≡ done (with' (given (bytes_of g.w g.v)) (given (bytes_of g.w' g.u))) =
-            by-numbers ∙ rw (refusal-of _ _ _ as-address, address-passed, refusal-of _ _ _ as-size, size-passed)
-            in
-            moved (ap₂ (λ (p q : List ℕ). done (with' (given p) (given q))) (x ∙ bytes-of _ _ _ as-address address-passed) (y ∙ bytes-of _ _ _ as-size size-passed) ∙ sym in_bytes)
-
-  -- The same by the numbers that the code asks: no width refuses a call that takes neither, and what stands for address and size is not looked at.
-  module _ {m : Bool} (takes : m ≡ takes_memory (row_of g.ask.call).takes) {a : MemoryBytes} (as-address : a ≡ memory_bytes g.v g.w g.wide) {n : ℕ} (says : n ≡ cond m a.refusal 0) where
-    pub turned-by-address : (n ≡ 0 → ⊥) → Means asked (refused_of g.session n) g.lent.buffer
-    turned-by-address h = go m takes says
-      where
-        go : (y : Bool) → y ≡ takes_memory (row_of g.ask.call).takes → n ≡ cond y a.refusal 0 → Means asked (refused_of g.session n) g.lent.buffer
-        go true e k = rw k (address-refused (sym e) as-address (λ z. h (k ∙ z)))
-        go false e k = absurd (h k)
-
-    module _ (address-passed : n ≡ 0) {s : MemoryBytes} (as-size : s ≡ memory_bytes g.u g.w' g.wide) {n' : ℕ} (says' : n' ≡ cond m s.refusal 0) where
-      pub turned-by-size : (n' ≡ 0 → ⊥) → Means asked (refused_of g.session n') g.lent.buffer
-      turned-by-size h = go m takes says says'
-        where
-          go : (y : Bool) → y ≡ takes_memory (row_of g.ask.call).takes → n ≡ cond y a.refusal 0 → n' ≡ cond y s.refusal 0 → Means asked (refused_of g.session n') g.lent.buffer
-          go true e j k = rw k (size-refused (sym e) as-address (sym j ∙ address-passed) as-size (λ z. h (k ∙ z)))
-          go false e j k = absurd (h k)
-
-      pub handed-on : {address' size' b : List ℕ} {r : Answered} → n' ≡ 0
+      as_bytes : {s : MemoryBytes} → Ok s ≡ memory_bytes g.u g.w' g.wide → {address' size' b : List ℕ} {r : Answered}
           → address' ≡ take a.len (drop 0 a.bytes) → size' ≡ take s.len (drop 0 s.bytes)
           → Means (with' (given address') (given size')) r b → Means asked r b
-      handed-on {address'} {size'} {b} {r} size-passed x z k = go m takes says says'
+      as_bytes as-size x y =
+          let in_bytes : done asked ≡ done (with' (given (bytes_of g.w g.v)) (given (bytes_of g.w' g.u))) =
+          by-numbers ∙ rw ((bytes-of _ _ _ as-address).0, (bytes-of _ _ _ as-size).0)
+          in
+          moved (ap₂ (λ (p q : List ℕ). done (with' (given p) (given q))) (x ∙ (bytes-of _ _ _ as-address).1) (y ∙ (bytes-of _ _ _ as-size).1) ∙ sym in_bytes)
+
+  -- The same by what the code asks: no width refuses a call that takes neither, and what stands for address and size is not looked at.
+  module _ {m : Bool} (takes : m ≡ takes_memory (row_of g.ask.call).takes) where
+    abbrev Field-bytes : returned.Result MemoryBytes ℕ → ℕ → ℕ → Type 0
+    Field-bytes x v w = x ≡ cond m (memory_bytes v w g.wide) (Ok no_bytes)
+
+    pub turned-by-address : (r : Refusal) → Field-bytes (Err (refusal_number r)) g.v g.w → Means asked (refused_of g.session r) g.lent.buffer
+    turned-by-address r = go m takes
+      where
+        go : (y : Bool) → y ≡ takes_memory (row_of g.ask.call).takes → Err (refusal_number r) ≡ cond y (memory_bytes g.v g.w g.wide) (Ok no_bytes)
+            → Means asked (refused_of g.session r) g.lent.buffer
+        go true e k = address-refused (sym e) r k
+        go false e k = absurd (let z : ◌≡◌ {A = ℕ} 0 1 = cc in omega arith)
+
+    module _ {a : MemoryBytes} (as-address : Field-bytes (Ok a) g.v g.w) where
+      pub turned-by-size : (r : Refusal) → Field-bytes (Err (refusal_number r)) g.u g.w' → Means asked (refused_of g.session r) g.lent.buffer
+      turned-by-size r = go m takes as-address
         where
-          go : (y : Bool) → y ≡ takes_memory (row_of g.ask.call).takes → n ≡ cond y a.refusal 0 → n' ≡ cond y s.refusal 0 → Means asked r b
-          go true e i j = as_bytes (sym e) as-address (sym i ∙ address-passed) as-size (sym j ∙ size-passed) x z k
+          go : (y : Bool) → y ≡ takes_memory (row_of g.ask.call).takes → Ok a ≡ cond y (memory_bytes g.v g.w g.wide) (Ok no_bytes)
+              → Err (refusal_number r) ≡ cond y (memory_bytes g.u g.w' g.wide) (Ok no_bytes) → Means asked (refused_of g.session r) g.lent.buffer
+          go true e j k = size-refused (sym e) j r k
+          go false e j k = absurd (let z : ◌≡◌ {A = ℕ} 0 1 = cc in omega arith)
+
+      pub handed-on : {s : MemoryBytes} → Field-bytes (Ok s) g.u g.w' → {address' size' b : List ℕ} {r : Answered}
+          → address' ≡ take a.len (drop 0 a.bytes) → size' ≡ take s.len (drop 0 s.bytes)
+          → Means (with' (given address') (given size')) r b → Means asked r b
+      handed-on {s} as-size {address'} {size'} {b} {r} x z k = go m takes as-address as-size
+        where
+          go : (y : Bool) → y ≡ takes_memory (row_of g.ask.call).takes → Ok a ≡ cond y (memory_bytes g.v g.w g.wide) (Ok no_bytes)
+              → Ok s ≡ cond y (memory_bytes g.u g.w' g.wide) (Ok no_bytes) → Means asked r b
+          go true e i j = as_bytes (sym e) i j x z k
           go false e i j = without (given address') (given size') (sym e) k

@@ -1,14 +1,16 @@
 -- A whole call of the code, as `rules` says it: the answer, the number, the session and the request buffer afterwards.
-use Rattle.std.specs.Prelude.{ℕ, Bool, true, false, ◌≡◌, List}
+use Rattle.std.specs.Prelude.{ℕ, Bool, true, false, ◌≡◌, List, replicate}
 use Rattle.rules.specs.Answers.{Outcome, positive, suppressed, negative, timeout, pending_limit, disconnected, transport, fault, refused}
 use Rattle.rules.specs.Calls as rules
 use Rattle.rules.specs.Client.{Result}
 use Rattle.rules.specs.Client as client
 use Rattle.rules.specs.Settings as settings
 use Rattle.rules.specs.Settings.{Setting, Lent}
-use Rattle.exchange.specs.Meaning.{form_of, outcome_of, answer_of, overall_of, limit_of, timed}
+use Rattle.exchange.specs.Meaning.{form_of, answer_of, option_of, timed}
 use Rattle.exchange.specs.Places.{Inside, InsideOutcome}
 use Rattle.exchange.specs.States.{no_place}
+use Rattle.wire.specs.declared.MemoryBytes.{MemoryBytes}
+use Rattle.wire.specs.declared.refusal.Refusal.{Refusal}
 use Rattle.exchange.specs.declared.types.Outcome.TheVariants.{Refused}
 use Rattle.exchange.specs.declared.types.Channel.{Channel}
 use Rattle.exchange.specs.declared.types.Timing.{Timing}
@@ -18,8 +20,8 @@ use Rattle.calls.specs.declared.Answered.{Answered}
 abbrev pub setting_of : Ask → Timing → Setting
 setting_of ask session = record {
   timing = timed session;
-  overall = overall_of ask.overall;
-  limit = limit_of ask.limit;
+  overall = option_of ask.overall;
+  limit = option_of ask.limit;
   server_timing = ask.server;
   quiet = ask.quiet;
 }
@@ -46,10 +48,10 @@ result_of replies r buffer = record {
   buffer = buffer;
 }
 
-abbrev pub refused_of : Timing → ℕ → Answered
-refused_of session n = record {
+abbrev pub refused_of : Timing → Refusal → Answered
+refused_of session r = record {
   answer = record {
-    outcome = Refused n;
+    outcome = Refused r;
     time = 0;
     events = 0;
     notices = 0;
@@ -59,6 +61,10 @@ refused_of session n = record {
   sent = 0;
   timing = session;
 }
+
+-- The bytes of a field that a call does not take.
+abbrev pub no_bytes : MemoryBytes
+no_bytes = record { len = 0; bytes = replicate 15 0 }
 
 abbrev pub is_refused : Outcome → Bool
 is_refused (positive p) = false

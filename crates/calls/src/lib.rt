@@ -1,19 +1,21 @@
 // A whole call, by value: the core that all named functions share.
 #![tactic(auto)]
 
-ghost use Rattle.std.specs.Prelude.{cond, [], ◌≡◌};
+ghost use Rattle.std.specs.Prelude.{cond, [], ◌≡◌, Ok};
+ghost use Rattle.wire.specs.Memory.{memory_bytes};
+ghost use Rattle.wire.specs.Refusing.{numbered};
 ghost use Rattle.exchange.specs.Meaning.{outcome_of};
 ghost use Rattle.rules.specs.Calls.{alfid};
 ghost use Rattle.requests.specs.Meaning.{call_from, call_of};
 ghost use Rattle.requests.specs.Rows.{takes_memory};
-ghost use Rattle.calls.specs.Meaning.{setting_of, lent_of, refused_of, is_refused, Called};
+ghost use Rattle.calls.specs.Meaning.{setting_of, lent_of, refused_of, is_refused, no_bytes, Called};
 ghost use Rattle.calls.specs.Concluded.{Rechecked, Concluded};
 
-use exchange::types::{
-    Answer, Asked, Channel, NoticeLimit, Outcome, Place, RequestTimeout, Timing,
-};
+use exchange::types::{Answer, Asked, Channel, Outcome, Place, Timing};
 use requests::Call;
 use requests::rows::{Takes, row_of};
+use wire::refusal::Refusal;
+use wire::{MemoryBytes, memory_bytes};
 
 // What is asked, by value: the call, and how it is made.
 #[derive(Clone, Copy)]
@@ -22,8 +24,8 @@ pub struct Ask {
     pub quiet: bool,
     pub strict: bool,
     pub server: bool,
-    pub overall: RequestTimeout,
-    pub limit: NoticeLimit,
+    pub overall: Option<u32>,
+    pub limit: Option<u8>,
     pub channel: Channel,
 }
 
@@ -37,11 +39,11 @@ pub struct Answered {
 }
 
 // "Refused: the number, time and counts 0, all buffers and timing untouched."
-fn refused(session: Timing, number: u8) -> Answered
-    ensures { result ≡ refused_of session number }
+fn refused(session: Timing, refusal: Refusal) -> Answered
+    ensures { result ≡ refused_of session refusal }
 {
     let answer = Answer {
-        outcome: Outcome::Refused(number),
+        outcome: Outcome::Refused(refusal),
         time: 0,
         events: 0,
         notices: 0,
@@ -143,28 +145,26 @@ pub fn run(
         (call_of ask.call address.now size.now «data».now)
         (lent_of ask.channel request.old events.now replies.now) result request.new }
 {
-    let call = ask.call;
-    let quiet = ask.quiet;
-    let strict = ask.strict;
-    let overall = ask.overall;
-    let limit = ask.limit;
-    let channel = ask.channel;
-    let prepared = requests::prepare(call, quiet, address, size, data, request.len());
-    let number = prepared.refusal;
-    if number != 0 {
-        return refused(session, number);
-    }
-    let sub = prepared.sub;
+    let prepared = match requests::prepare(
+        ask.call,
+        ask.quiet,
+        address,
+        size,
+        data,
+        request.len(),
+    ) {
+        Ok(prepared) => prepared,
+        Err(refusal) => return refused(session, refusal),
+    };
     let asked = Asked {
         sid: prepared.sid,
-        sub,
+        sub: prepared.sub,
         timing: session,
-        limit,
+        limit: ask.limit,
     };
-    let heard = exchange::exchange(strict, asked, overall, channel, events, replies);
-    let outcome = heard.outcome;
-    if is_refused(outcome) {
-        return refused(session, 10);
+    let heard = exchange::exchange(ask.strict, asked, ask.overall, ask.channel, events, replies);
+    if is_refused(heard.outcome) {
+        return refused(session, Refusal::Events);
     }
     let answered = concluded(session, ask, prepared.length, address, size, replies, heard);
     // last, since the checks' values and the writing's are then not kept at once, which takes less of the stack
@@ -184,11 +184,17 @@ fn takes_memory(takes: Takes) -> bool
     }
 }
 
-// No width refuses a call that takes neither.
-fn refusal_of(takes: bool, refusal: u8) -> u8
-    ensures { result ≡ cond takes refusal 0 }
+// A field's bytes. A call that takes neither has none, and no width refuses it.
+fn field_bytes(takes: bool, value: u64, width: usize, wide: bool) -> Result<MemoryBytes, Refusal>
+    ensures { numbered result ≡ cond takes (memory_bytes value width wide) (Ok no_bytes) }
 {
-    if takes { refusal } else { 0 }
+    if !takes {
+        return Ok(MemoryBytes {
+            len: 0,
+            bytes: [0; 15],
+        });
+    }
+    memory_bytes(value, width, wide)
 }
 
 // The `alfid` form: "address and size as 64-bit numbers, each with a width in bytes, sent high byte first". Under the wide setting widths 1 to
@@ -210,20 +216,16 @@ pub fn run_alfid(
         (call_from ask.call (alfid address address_width wide) (alfid size size_width wide) «data».now)
         (lent_of ask.channel request.old events.now replies.now) result request.new }
 {
-    let call = ask.call;
-    let row = row_of(call);
-    let arguments = row.takes;
-    let takes = takes_memory(arguments);
-    let a = wire::memory_bytes(address, address_width, wide);
-    let number = refusal_of(takes, a.refusal);
-    if number != 0 {
-        return refused(session, number);
-    }
-    let s = wire::memory_bytes(size, size_width, wide);
-    let number = refusal_of(takes, s.refusal);
-    if number != 0 {
-        return refused(session, number);
-    }
+    let row = row_of(ask.call);
+    let takes = takes_memory(row.takes);
+    let a = match field_bytes(takes, address, address_width, wide) {
+        Ok(a) => a,
+        Err(refusal) => return refused(session, refusal),
+    };
+    let s = match field_bytes(takes, size, size_width, wide) {
+        Ok(s) => s,
+        Err(refusal) => return refused(session, refusal),
+    };
     let address = a.bytes;
     let size = s.bytes;
     let address = wire::part(&address, 0, a.len);

@@ -2,7 +2,7 @@
 use Prim.Native.Nat.{ℕ, suc, ◌+◌, ◌-◌, ◌*◌, ◌%◌, ◌<◌}
 use native.Mathlib.Nat.{add-zero}
 use native.Mathlib.Omega.{arith}
-use mathlib.Core.Bool.{Bool, true, false, cond, ◌&&◌, ◌||◌, false≢true}
+use mathlib.Core.Bool.{Bool, true, false, cond, ◌&&◌, ◌||◌, false≢true, and-false}
 use mathlib.Core.List.{List, [], ◌∷◌}
 use mathlib.Core.Path.{◌≡◌, refl, sym, ◌∙◌, ap}
 use lib.Dec.{leb, eqb}
@@ -12,21 +12,9 @@ use Rattle.candump.specs.Text.{between, Class, Space, Digit, Hex, Printable, is,
 use Rattle.candump.specs.Lines.{blank, unreadable, front, rest, none, some, is_direction, ends, content}
 use Rattle.candump.specs.Lines.{is_identifier, identifier, identified, unnamed, named, timed, micros, seconds, opened, whole}
 
-pub and-false : (a : Bool) → (a && false) ≡ false
-and-false true = refl
-and-false false = refl
-
-pub and-true : (a : Bool) → (a && true) ≡ a
-and-true true = refl
-and-true false = refl
-
 pub and-mid : (a b c : Bool) → b ≡ false → (a && b && c) ≡ false
 and-mid true b c e = rw e
 and-mid false b c e = refl
-
-pub or-false : (a : Bool) → (a || false) ≡ a
-or-false true = refl
-or-false false = refl
 
 module _ (k : Class) (c : ℕ) (t : List ℕ) where
   pub run-yes : is k c ≡ true → run k (c ∷ t) ≡ c ∷ run k t

@@ -3,7 +3,7 @@ use Prim.Native.Nat.{ℕ, zero, suc, ◌+◌, ◌-◌, ◌*◌, ◌%◌, ◌≤�
 use native.Mathlib.Nat.{add-zero, zero-add}
 use native.Mathlib.Numerals.{add-one}
 use native.Mathlib.Omega.{arith}
-use mathlib.Core.Bool.{Bool, true, false, cond, ◌&&◌, ◌||◌, false≢true}
+use mathlib.Core.Bool.{Bool, true, false, cond, ◌&&◌, ◌||◌, false≢true, and-false, and-true, or-false}
 use mathlib.Core.List.{List, [], ◌∷◌, ◌++◌, append-nil}
 use mathlib.Core.Path.{◌≡◌, refl, sym, ◌∙◌, ap, ap₂}
 use lib.Dec.{leb, ltb, eqb}
@@ -21,7 +21,7 @@ use Rattle.candump.specs.declared.Phase.{Phase}
 use Rattle.candump.specs.declared.Phase.TheVariants.{Start, Blanks, Seconds, Micros, Closed, BeforeName, Name, BeforeIdentifier, Identifier}
 use Rattle.candump.specs.declared.Phase.TheVariants.{Data, Half, Remote, Fd, Behind, Spaced, Directed, Bad}
 use Rattle.candump.specs.declared.Reader.{Reader}
-use Rattle.candump.proofs.Grammar.{and-false, and-true, and-mid, or-false, run-yes, run-no, past-yes, past-no, worth-small, hex-not, ends_spaced, ends-step}
+use Rattle.candump.proofs.Grammar.{and-mid, run-yes, run-no, past-yes, past-no, worth-small, hex-not, ends_spaced, ends-step}
 use Rattle.candump.proofs.Grammar.{spaced-step, none-step, whole-step, seconds-step, seconds-over, micros-step, micros-over}
 use Rattle.candump.proofs.Grammar.{identified-step, identified-over, timed-step, named_step, unnamed-step}
 

@@ -4,7 +4,8 @@
 ghost use Rattle.std.specs.Prelude.{◌||◌, ◌&&◌, cond, ◌≡◌, ◌+◌, ◌-◌, ◌*◌, ◌%◌, ◌≤◌, ◌<◌, eqb};
 ghost use Rattle.candump.specs.declared.Found.TheVariants.{Other, Unreadable};
 ghost use Rattle.candump.specs.declared.Phase.TheVariants.{Bad};
-ghost use Rattle.candump.specs.Text.{between, Hex, is, worth};
+ghost use Rattle.rules.specs.Bytes.{every};
+ghost use Rattle.candump.specs.Text.{Hex, is, worth};
 ghost use Rattle.candump.specs.Lines.{is_identifier};
 ghost use Rattle.candump.specs.Words.{names, identifier_in};
 ghost use Rattle.candump.specs.Reading.{begun, more, microseconds, can_id, classic_found, after, stored, next, ended, hopeless};
@@ -42,13 +43,6 @@ pub enum Phase {
     Bad,
 }
 
-// What a word is in an identifier's place: one of 29 bits is 80000000 hex more, as in a frame.
-#[derive(Clone, Copy)]
-pub enum Named {
-    Id(u64),
-    Nothing,
-}
-
 // A line under way: how far it was read, whether a CR stands there, the data bytes.
 #[derive(Clone, Copy)]
 pub struct Reader {
@@ -57,78 +51,30 @@ pub struct Reader {
     pub bytes: [u8; 8],
 }
 
-fn between(least: u8, most: u8, c: u8) -> bool
-    ensures { result ≡ between least most c }
-{
-    if c < least {
-        return false;
-    }
-    c <= most
-}
-
-fn either(a: bool, b: bool) -> bool
-    ensures { result ≡ (a || b) }
-{
-    if a { true } else { b }
-}
-
-fn both(a: bool, b: bool) -> bool
-    ensures { result ≡ (a && b) }
-{
-    if a { b } else { false }
-}
-
-// One test, and the phase for either answer.
-fn pick(test: bool, yes: Phase, no: Phase) -> Phase
-    ensures { result ≡ cond test yes no }
-{
-    if test { yes } else { no }
-}
-
-fn is_hex(c: u8) -> bool
-    ensures { result ≡ is Hex c }
-{
-    either(
-        either(between(48, 57, c), between(65, 70, c)),
-        between(97, 102, c),
-    )
-}
-
-fn less(a: u8, b: u8) -> u8
-    ensures { result ≡ a - b }
-{
-    if a < b { 0 } else { a - b }
-}
-
+#[tactic(auto, unfolding(crate::specs::Text::worth))]
 fn worth(c: u8) -> u8
     ensures { (result ≡ worth c) × (result < 16) }
 {
-    if c <= 57 {
-        return less(c, 48) % 16;
+    if c <= b'9' {
+        c.saturating_sub(b'0') % 16
+    } else if c <= b'F' {
+        (c - (b'A' - 10)) % 16
+    } else {
+        c.saturating_sub(b'a' - 10) % 16
     }
-    if c <= 70 {
-        return (c - 55) % 16;
-    }
-    less(c, 87) % 16
-}
-
-fn wide(b: u8) -> u64
-    ensures { (result ≡ b) × (result < 256) }
-{
-    b as u64
 }
 
 // One digit more.
 fn decimal(v: u64, c: u8) -> u64
     ensures { result ≡ more 10 v c }
 {
-    v % 0x100000000000000 * 10 + wide(worth(c))
+    v % 0x100000000000000 * 10 + worth(c) as u64
 }
 
 fn hexadecimal(v: u64, c: u8) -> u64
     ensures { result ≡ more 16 v c }
 {
-    v % 0x100000000000000 * 16 + wide(worth(c))
+    v % 0x100000000000000 * 16 + worth(c) as u64
 }
 
 fn microseconds(seconds: u64, v: u64) -> u64
@@ -141,157 +87,191 @@ fn microseconds(seconds: u64, v: u64) -> u64
 fn is_identifier(n: u8, v: u64) -> bool
     ensures { result ≡ is_identifier n v }
 {
-    either(both(n == 3, v <= 0x7ff), both(n == 8, v <= 0x3fffffff))
+    n == 3 && v <= 0x7ff || n == 8 && v <= 0x3fffffff
 }
 
 fn can_id(n: u8, v: u64) -> u64
     ensures { result ≡ can_id n v }
 {
     if n == 3 {
-        return v;
+        v
+    } else {
+        0x80000000 + v % 0x100000000000000
     }
-    0x80000000 + v % 0x100000000000000
 }
 
 fn classic_found(time: u64, id: u64, n: u8) -> Found
     ensures { result ≡ classic_found time id n }
 {
-    if id > 0x9fffffff {
-        return Found::Other(time);
+    if id <= 0x9fffffff {
+        Found::Frame(time, id, n)
+    } else {
+        Found::Other(time)
     }
-    Found::Frame(time, id, n)
 }
 
 fn fd_found(time: u64, n: u8) -> Found
     ensures { result ≡ cond (eqb (n % 2) 1) (Other time) Unreadable }
 {
     if n % 2 == 1 {
-        return Found::Other(time);
+        Found::Other(time)
+    } else {
+        Found::Unreadable
     }
-    Found::Unreadable
 }
 
+// By `if`: a `match` on the byte in each arm was tried, and the program took an eighth more time.
+#[tactic(auto, unfolding(crate::specs::Reading::after, crate::specs::Text::is))]
 fn after(phase: Phase, c: u8) -> Phase
     ensures { result ≡ after phase c }
 {
     match phase {
-        Phase::Start => pick(
-            c == 32,
-            Phase::Blanks,
-            pick(c == 40, Phase::Seconds(0, 0), Phase::Bad),
-        ),
-        Phase::Blanks => pick(c == 32, Phase::Blanks, Phase::Bad),
-        Phase::Seconds(n, v) => pick(
-            between(48, 57, c),
-            pick(
-                n < 10,
-                Phase::Seconds(n % 16 + 1, decimal(v, c)),
-                Phase::Bad,
-            ),
-            pick(
-                both(between(1, 10, n), c == 46),
-                Phase::Micros(v, 0, 0),
-                Phase::Bad,
-            ),
-        ),
-        Phase::Micros(s, n, v) => pick(
-            between(48, 57, c),
-            pick(
-                n < 6,
-                Phase::Micros(s, n % 16 + 1, decimal(v, c)),
-                Phase::Bad,
-            ),
-            pick(
-                both(n == 6, c == 41),
-                Phase::Closed(microseconds(s, v)),
-                Phase::Bad,
-            ),
-        ),
-        Phase::Closed(t) => pick(c == 32, Phase::BeforeName(t), Phase::Bad),
-        Phase::BeforeName(t) => pick(
-            c == 32,
-            Phase::BeforeName(t),
-            pick(between(0x21, 0x7e, c), Phase::Name(t), Phase::Bad),
-        ),
-        Phase::Name(t) => pick(
-            between(0x21, 0x7e, c),
-            Phase::Name(t),
-            pick(c == 32, Phase::BeforeIdentifier(t), Phase::Bad),
-        ),
-        Phase::BeforeIdentifier(t) => pick(
-            c == 32,
-            Phase::BeforeIdentifier(t),
-            pick(
-                is_hex(c),
-                Phase::Identifier(t, 1, wide(worth(c))),
-                Phase::Bad,
-            ),
-        ),
-        Phase::Identifier(t, n, v) => pick(
-            is_hex(c),
-            pick(
-                n < 8,
-                Phase::Identifier(t, n % 16 + 1, hexadecimal(v, c)),
-                Phase::Bad,
-            ),
-            pick(
-                both(is_identifier(n, v), c == 35),
-                Phase::Data(t, can_id(n, v), 0),
-                Phase::Bad,
-            ),
-        ),
-        Phase::Data(t, id, n) => pick(
-            is_hex(c),
-            pick(n < 8, Phase::Half(t, id, n, worth(c)), Phase::Bad),
-            pick(
-                c == 32,
-                Phase::Spaced(classic_found(t, id, n)),
-                pick(
-                    both(n == 0, c == 82),
-                    Phase::Remote(t),
-                    pick(both(n == 0, c == 35), Phase::Fd(t, 0), Phase::Bad),
-                ),
-            ),
-        ),
-        Phase::Half(t, id, n, h) => pick(is_hex(c), Phase::Data(t, id, n % 8 + 1), Phase::Bad),
-        Phase::Remote(t) => pick(
-            between(48, 56, c),
-            Phase::Behind(Found::Other(t)),
-            pick(c == 32, Phase::Spaced(Found::Other(t)), Phase::Bad),
-        ),
-        Phase::Fd(t, n) => pick(
-            is_hex(c),
-            pick(n < 129, Phase::Fd(t, n % 129 + 1), Phase::Bad),
-            pick(
-                both(n % 2 == 1, c == 32),
-                Phase::Spaced(Found::Other(t)),
-                Phase::Bad,
-            ),
-        ),
-        Phase::Behind(f) => pick(c == 32, Phase::Spaced(f), Phase::Bad),
-        Phase::Spaced(f) => pick(
-            c == 32,
-            Phase::Spaced(f),
-            pick(either(c == 82, c == 84), Phase::Directed(f), Phase::Bad),
-        ),
-        Phase::Directed(f) => pick(c == 32, Phase::Directed(f), Phase::Bad),
+        Phase::Start => {
+            if c == b' ' {
+                Phase::Blanks
+            } else if c == b'(' {
+                Phase::Seconds(0, 0)
+            } else {
+                Phase::Bad
+            }
+        }
+        Phase::Blanks => { if c == b' ' { Phase::Blanks } else { Phase::Bad } }
+        Phase::Seconds(n, v) => {
+            if n < 10 && c.is_ascii_digit() {
+                Phase::Seconds(n % 16 + 1, decimal(v, c))
+            } else if c == b'.' && matches!(n, 1..=10) {
+                Phase::Micros(v, 0, 0)
+            } else {
+                Phase::Bad
+            }
+        }
+        Phase::Micros(s, n, v) => {
+            if n < 6 && c.is_ascii_digit() {
+                Phase::Micros(s, n % 16 + 1, decimal(v, c))
+            } else if c == b')' && n == 6 {
+                Phase::Closed(microseconds(s, v))
+            } else {
+                Phase::Bad
+            }
+        }
+        Phase::Closed(t) => {
+            if c == b' ' {
+                Phase::BeforeName(t)
+            } else {
+                Phase::Bad
+            }
+        }
+        Phase::BeforeName(t) => {
+            if c == b' ' {
+                Phase::BeforeName(t)
+            } else if c.is_ascii_graphic() {
+                Phase::Name(t)
+            } else {
+                Phase::Bad
+            }
+        }
+        Phase::Name(t) => {
+            if c.is_ascii_graphic() {
+                Phase::Name(t)
+            } else if c == b' ' {
+                Phase::BeforeIdentifier(t)
+            } else {
+                Phase::Bad
+            }
+        }
+        Phase::BeforeIdentifier(t) => {
+            if c == b' ' {
+                Phase::BeforeIdentifier(t)
+            } else if c.is_ascii_hexdigit() {
+                Phase::Identifier(t, 1, worth(c) as u64)
+            } else {
+                Phase::Bad
+            }
+        }
+        Phase::Identifier(t, n, v) => {
+            if n < 8 && c.is_ascii_hexdigit() {
+                Phase::Identifier(t, n % 16 + 1, hexadecimal(v, c))
+            } else if c == b'#' && is_identifier(n, v) {
+                Phase::Data(t, can_id(n, v), 0)
+            } else {
+                Phase::Bad
+            }
+        }
+        Phase::Data(t, id, n) => {
+            if n < 8 && c.is_ascii_hexdigit() {
+                Phase::Half(t, id, n, worth(c))
+            } else if c == b' ' {
+                Phase::Spaced(classic_found(t, id, n))
+            } else if c == b'R' && n == 0 {
+                Phase::Remote(t)
+            } else if c == b'#' && n == 0 {
+                Phase::Fd(t, 0)
+            } else {
+                Phase::Bad
+            }
+        }
+        Phase::Half(t, id, n, _) => {
+            if c.is_ascii_hexdigit() {
+                Phase::Data(t, id, n % 8 + 1)
+            } else {
+                Phase::Bad
+            }
+        }
+        Phase::Remote(t) => {
+            if matches!(c, b'0'..=b'8') {
+                Phase::Behind(Found::Other(t))
+            } else if c == b' ' {
+                Phase::Spaced(Found::Other(t))
+            } else {
+                Phase::Bad
+            }
+        }
+        Phase::Fd(t, n) => {
+            if n < 129 && c.is_ascii_hexdigit() {
+                Phase::Fd(t, n % 129 + 1)
+            } else if c == b' ' && n % 2 == 1 {
+                Phase::Spaced(Found::Other(t))
+            } else {
+                Phase::Bad
+            }
+        }
+        Phase::Behind(f) => {
+            if c == b' ' {
+                Phase::Spaced(f)
+            } else {
+                Phase::Bad
+            }
+        }
+        Phase::Spaced(f) => {
+            if c == b' ' {
+                Phase::Spaced(f)
+            } else if matches!(c, b'R' | b'T') {
+                Phase::Directed(f)
+            } else {
+                Phase::Bad
+            }
+        }
+        Phase::Directed(f) => {
+            if c == b' ' {
+                Phase::Directed(f)
+            } else {
+                Phase::Bad
+            }
+        }
         Phase::Bad => Phase::Bad,
     }
 }
 
 // A second digit makes a byte.
+#[tactic(auto, unfolding(crate::specs::Reading::stored))]
 fn stored(phase: Phase, bytes: [u8; 8], c: u8) -> [u8; 8]
     ensures { result ≡ stored phase bytes c }
 {
-    match phase {
-        Phase::Half(_, _, n, h) => {
-            let mut more = bytes;
-            let i = (n % 8) as usize;
-            more[i] = h % 16 * 16 + worth(c);
-            more
-        }
-        _ => bytes,
+    let mut more = bytes;
+    if let Phase::Half(_, _, n, h) = phase {
+        more[(n % 8) as usize] = h % 16 * 16 + worth(c);
     }
+    more
 }
 
 // A line of which nothing was read.
@@ -310,82 +290,76 @@ fn stepped(returned: bool, phase: Phase, c: u8) -> Phase
     ensures { result ≡ cond returned Bad (cond (eqb c 13) phase (after phase c)) }
 {
     if returned {
-        return Phase::Bad;
+        Phase::Bad
+    } else if c == b'\r' {
+        phase
+    } else {
+        after(phase, c)
     }
-    if c == 13 {
-        return phase;
-    }
-    after(phase, c)
 }
 
 // One byte more of the line, which has no LF.
 pub fn next(reader: Reader, c: u8) -> Reader
     ensures { result ≡ next reader c }
 {
-    let phase = reader.phase;
-    let bytes = reader.bytes;
     Reader {
-        phase: stepped(reader.returned, phase, c),
-        returned: c == 13,
-        bytes: stored(phase, bytes, c),
+        phase: stepped(reader.returned, reader.phase, c),
+        returned: c == b'\r',
+        bytes: stored(reader.phase, reader.bytes, c),
     }
 }
 
 // What the line is, if it ends here. The data bytes of a frame are the first of the reader's.
+#[tactic(auto, unfolding(crate::specs::Reading::ended))]
 pub fn ended(reader: Reader) -> Found
     ensures { result ≡ ended reader.phase }
 {
-    let phase = reader.phase;
-    match phase {
-        Phase::Start => Found::Blank,
-        Phase::Blanks => Found::Blank,
+    match reader.phase {
+        Phase::Start | Phase::Blanks => Found::Blank,
         Phase::Data(t, id, n) => classic_found(t, id, n),
         Phase::Remote(t) => Found::Other(t),
         Phase::Fd(t, n) => fd_found(t, n),
-        Phase::Behind(f) => f,
-        Phase::Spaced(f) => f,
-        Phase::Directed(f) => f,
+        Phase::Behind(f) | Phase::Spaced(f) | Phase::Directed(f) => f,
         _ => Found::Unreadable,
     }
 }
 
 // Whether the line can't be read, whatever follows.
+#[tactic(auto, unfolding(crate::specs::Reading::hopeless))]
 pub fn hopeless(reader: Reader) -> bool
     ensures { result ≡ hopeless reader.phase }
 {
-    let phase = reader.phase;
-    match phase {
-        Phase::Bad => true,
-        _ => false,
-    }
+    matches!(reader.phase, Phase::Bad)
 }
 
 // "three digits up to 7FF for 11 bits, eight up to 1FFFFFFF for 29 bits"
 fn names(n: usize, v: u64) -> bool
     ensures { result ≡ names n v }
 {
-    either(both(n == 3, v <= 0x7ff), both(n == 8, v <= 0x1fffffff))
+    n == 3 && v <= 0x7ff || n == 8 && v <= 0x1fffffff
+}
+
+fn all_hex(word: &[u8]) -> bool
+    ensures { result ≡ every (is Hex) word.now }
+{
+    word.iter().all(|c| c.is_ascii_hexdigit())
 }
 
 // The identifier that a word names: hex digits, and nothing before or behind them.
-pub fn identifier(word: &[u8]) -> Named
+pub fn identifier(word: &[u8]) -> Option<u64>
     ensures { result ≡ identifier_in word.now }
 {
     let n = word.len();
-    if n > 8 {
-        return Named::Nothing;
+    if n > 8 || !all_hex(word) {
+        return None;
     }
-    let mut digits = true;
     let mut v = 0;
-    let mut i = 0;
-    while i < n {
-        let c = word[i];
-        digits = both(digits, is_hex(c));
+    for &c in word {
         v = hexadecimal(v, c);
-        i += 1;
     }
-    if !both(digits, names(n, v)) {
-        return Named::Nothing;
+    if names(n, v) {
+        Some(can_id(n as u8, v))
+    } else {
+        None
     }
-    Named::Id(can_id(n as u8, v))
 }

@@ -1,17 +1,17 @@
 -- The place of the data in a reply that stands at a place.
-use Prim.Native.Nat.{ℕ, ◌+◌, ◌%◌, ◌≤◌, ◌<◌}
+use Prim.Native.Nat.{ℕ, ◌+◌, ◌%◌, ◌≤◌}
 use native.Mathlib.Omega.{arith}
 use mathlib.Core.Bool.{Bool, true, false, cond}
 use mathlib.Core.List.{List}
 use mathlib.Core.Path.{◌≡◌, refl, sym, ap, ◌∙◌}
-use borrow.Author.Tests.{le-leb, lt-leb}
+use borrow.Author.Tests.{le-leb}
 use lib.Dec.{eqb}
 use lib.ListN.{length, take, drop, length-take, length-drop}
 use Rattle.rules.specs.After.{first, handed}
 use Rattle.rules.specs.Answers.{Part, part, behind}
 use Rattle.rules.specs.Calls.{head}
 use Rattle.exchange.specs.declared.types.Place.{Place}
-use Rattle.exchange.specs.Meaning.{part_of, sub_of}
+use Rattle.exchange.specs.Meaning.{part_of, option_of}
 use Rattle.requests.specs.declared.Call.{Call}
 use Rattle.requests.specs.declared.Call.TheVariants as call
 use Rattle.requests.specs.Meaning.{call_of, bare}
@@ -46,7 +46,7 @@ handed-beside (call.ReadDTCInformationDTC mask) a s d p = refl
 -- It is what the span says.
 module _ (at : ℕ) (r : List ℕ) where
   spans : (k : Call) → handed (bare k) (part at r) ≡ first (span_of k r).1 (behind (span_of k r).0 (part at r))
-  spans (call.Request sid sub p) = all-behind (head (sub_of sub)) at r
+  spans (call.Request sid sub p) = all-behind (head (option_of sub)) at r
   spans (call.DiagnosticSessionControl sub) = refl
   spans (call.EcuReset sub) = refl
   spans (call.SecurityAccess sub p) = go (eqb (sub % 2) 1)
@@ -71,9 +71,6 @@ module _ (at : ℕ) (r : List ℕ) where
 module _ (call : Call) (l : List ℕ) (place : Place) (r : List ℕ) (here : r ≡ take place.len (drop place.at l)) (s : Span) (out : s ≡ span_of call r) where
   found : handed (bare call) (part_of l place) ≡ part (place.at + s.0) (take s.1 (drop s.0 r))
   found = rw (← here, out) (spans place.at r call)
-
-  pub handed-nowhere : length l < place.at + s.0 → Handed call l place (record { at = 0; len = 0 })
-  handed-nowhere h = record { means = rw (found, lt-leb (place.at + s.0) (length l) h); inside = omega arith }
 
   pub handed-there : place.at + s.0 ≤ length l → (bytes : List ℕ) → bytes ≡ take s.1 (drop s.0 r)
       → Handed call l place (record { at = place.at + s.0; len = length bytes })

@@ -2,14 +2,13 @@
 use Prim.Native.Nat.{ℕ, zero, suc, ◌+◌, ◌≤◌, ◌<◌}
 use native.Mathlib.Numerals.{add-one}
 use native.Mathlib.Omega.{arith}
-use mathlib.Core.Bool.{Bool, true, false, ◌&&◌}
+use mathlib.Core.Bool.{Bool, true, ◌&&◌}
 use mathlib.Core.List.{List, [], ◌∷◌}
 use mathlib.Core.Path.{◌≡◌, refl, ap}
 use lib.Dec.{eqb}
 use lib.ListN.{length, get_or, take, drop, length-drop, drop_of_length-le}
 use lib.Seq.{take_all, take-nil, drop-cons, drop-drop}
 use Rattle.rules.specs.Bytes.{same}
-use Rattle.rules.proofs.Opened.{same_true}
 
 pub tail : (i : ℕ) (l : List ℕ) → take (length l) (drop i l) ≡ drop i l
 tail i l = take_all (length l) (drop i l) (omega (arith, length-drop i l))
@@ -38,10 +37,3 @@ module _ (i : ℕ) (a b : List ℕ) where
 
   pub same_end : length a ≤ i → length b ≤ i → same (drop i a) (drop i b) ≡ true
   same_end h k = rw (drop_of_length-le a h, drop_of_length-le b k)
-
-pub same-lengths : (a b : List ℕ) → (length a ≡ length b → ⊥) → same a b ≡ false
-same-lengths a b n = go (same a b) refl
-  where
-    go : (t : Bool) → same a b ≡ t → t ≡ false
-    go true e = absurd (n (ap length (same_true a b e)))
-    go false e = refl

@@ -2,7 +2,7 @@
 use Prim.Native.Nat.{ℕ}
 use mathlib.Core.Bool.{Bool}
 use mathlib.Core.List.{List}
-use mathlib.Core.Path.{◌≡◌, sym, ap, ◌∙◌}
+use mathlib.Core.Path.{◌≡◌, ap}
 use Rattle.rules.specs.After.{checked}
 use Rattle.rules.specs.Exchange.{settles}
 use Rattle.rules.specs.Settings as settings

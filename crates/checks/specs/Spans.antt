@@ -2,7 +2,7 @@
 use Rattle.std.specs.Prelude.{ℕ, ◌+◌, ◌-◌, ◌*◌, ◌/◌, ◌%◌, cond, List, eqb, length, drop}
 use Rattle.rules.specs.After.{length_bytes}
 use Rattle.rules.specs.Calls.{head}
-use Rattle.exchange.specs.Meaning.{sub_of}
+use Rattle.exchange.specs.Meaning.{option_of}
 use Rattle.requests.specs.declared.Call.{Call}
 use Rattle.requests.specs.declared.Call.TheVariants as call
 use Rattle.checks.specs.declared.handed.Span.{Span}
@@ -19,7 +19,7 @@ abbrev pub unbroken : List ℕ → ℕ
 unbroken r = (length (drop 2 r) - 1) / 4 * 4 + 1
 
 abbrev pub span_of : Call → List ℕ → Span
-span_of (call.Request sid sub p) r = span (head (sub_of sub)) (length r)
+span_of (call.Request sid sub p) r = span (head (option_of sub)) (length r)
 span_of (call.DiagnosticSessionControl sub) r = span 2 (only 4 r)
 span_of (call.EcuReset sub) r = span 2 (only 1 r)
 span_of (call.SecurityAccess sub p) r = span 2 (cond (eqb (sub % 2) 1) (length r) 0)

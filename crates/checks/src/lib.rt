@@ -10,11 +10,9 @@ ghost use Rattle.checks.specs.Answered.{Checked, place_of, fitting};
 
 use crate::handed::handed;
 use crate::services::verdict;
-use exchange::error::Verdict;
 use exchange::types::{Outcome, Place, Timing};
-use lengths::{Number, block_length};
+use lengths::block_length;
 use requests::Call;
-use requests::rows::row_of;
 use wire::{part, u16_at};
 
 mod handed;
@@ -34,8 +32,8 @@ pub fn check(
     let at = place.at;
     let len = place.len;
     match verdict(strict, call, address, size, part(replies, at, len)) {
-        Verdict::Failed(fault) => Outcome::Fault(fault),
-        Verdict::Passed => Outcome::PositiveResponse(handed(call, replies, place)),
+        Err(fault) => Outcome::Fault(fault),
+        Ok(()) => Outcome::PositiveResponse(handed(call, replies, place)),
     }
 }
 
@@ -70,23 +68,11 @@ pub fn data<'r>(outcome: Outcome, replies: &'r [u8]) -> &'r [u8]
 pub fn number(call: Call, outcome: Outcome, replies: &[u8]) -> u64
     ensures { result ≡ fitting (number_of (bare call) (outcome_of replies.now outcome)) }
 {
-    let n = row_of(call).number;
-    if n < 11 {
-        return 0;
+    match call {
+        Call::RequestDownload(_, _) => block_length(data(outcome, replies)).unwrap_or(0),
+        Call::RequestUpload(_, _) => block_length(data(outcome, replies)).unwrap_or(0),
+        _ => 0,
     }
-    if n > 12 {
-        return 0;
-    }
-    match block_length(data(outcome, replies)) {
-        Number::Value(v) => v,
-        Number::Overflow => 0,
-    }
-}
-
-fn wide32(n: u16) -> u32
-    ensures { (result ≡ n) × (result < 65536) }
-{
-    n as u32
 }
 
 // "Call 1, answered positive with four data bytes and server timing on, sets the session's P2 to the first pair and P2* to ten times the second. Nothing else sets it."
@@ -99,9 +85,9 @@ pub fn timing(
 ) -> Timing
     ensures { timed result ≡ timing_of server_timing (bare call) (outcome_of replies.now outcome) (timed session) }
 {
-    if row_of(call).number != 1 {
+    let Call::DiagnosticSessionControl(_) = call else {
         return session;
-    }
+    };
     if !server_timing {
         return session;
     }
@@ -110,7 +96,7 @@ pub fn timing(
         return session;
     }
     Timing {
-        p2: wide32(u16_at(bytes, 0)),
-        star: wide32(u16_at(bytes, 2)) * 10,
+        p2: u16_at(bytes, 0) as u32,
+        star: u16_at(bytes, 2) as u32 * 10,
     }
 }

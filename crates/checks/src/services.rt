@@ -6,21 +6,15 @@ ghost use Rattle.rules.specs.Answers.{overflow};
 ghost use Rattle.rules.specs.Bytes.{value, u16_at, same};
 ghost use Rattle.rules.specs.Calls.{given, read_memory, write_memory, fault_count, fault_list, routine};
 ghost use Rattle.rules.specs.InOrder.{unless, judge, in_strict};
-ghost use Rattle.exchange.specs.Meaning.{maximum_of, deviation_of, verdict_of, first_of};
+ghost use Rattle.exchange.specs.Meaning.{option_of, deviation_of, verdict_of, first_of};
 ghost use Rattle.requests.specs.Meaning.{data_of};
 ghost use Rattle.checks.specs.Answered.{asked};
 
-use exchange::error::{Fault, Maximum, ProtocolDeviation, Verdict};
+use exchange::error::{Fault, ProtocolDeviation};
 use exchange::judging::length_error;
-use lengths::{Number, block_length, record_length_is};
+use lengths::{block_length, record_length_is};
 use requests::{Call, Data};
 use wire::{byte_at, part, u16_at};
-
-fn wide(b: u8) -> usize
-    ensures { (result ≡ b) × (result < 256) }
-{
-    b as usize
-}
 
 // What is left behind the first `from` bytes.
 pub fn rest<'a>(bytes: &'a [u8], from: usize) -> &'a [u8]
@@ -29,48 +23,38 @@ pub fn rest<'a>(bytes: &'a [u8], from: usize) -> &'a [u8]
     part(bytes, from, bytes.len())
 }
 
+// `==`, in the word of the definition.
 fn same(a: &[u8], b: &[u8]) -> bool
     ensures { result ≡ same a.now b.now }
 {
-    if a.len() != b.len() {
-        return false;
-    }
-    let mut i = 0;
-    while i < a.len() {
-        if a[i] != b[i] {
-            return false;
-        }
-        i += 1;
-    }
-    true
+    a == b
 }
 
-fn within(len: usize, minimum: usize, maximum: Maximum) -> bool
-    ensures { result ≡ (leb minimum len && most (maximum_of maximum) len) }
+fn within(len: usize, minimum: usize, maximum: Option<usize>) -> bool
+    ensures { result ≡ (leb minimum len && most (option_of maximum) len) }
 {
     if len < minimum {
         return false;
     }
     match maximum {
-        Maximum::None => true,
-        Maximum::At(n) => len <= n,
+        None => true,
+        Some(n) => len <= n,
     }
 }
 
-// "Strict bounds of total length", before the checks of which `next` is the verdict.
-fn bounded(strict: bool, minimum: usize, maximum: Maximum, reply: &[u8], next: Verdict) -> Verdict
-    ensures { verdict_of result ≡ judge some (bounds strict minimum (maximum_of maximum) reply.now ∷ []) (verdict_of next) }
+// "Strict bounds of total length"
+fn validate_response_length(
+    strict: bool,
+    reply: &[u8],
+    minimum: usize,
+    maximum: Option<usize>,
+) -> Result<(), Fault>
+    ensures { verdict_of result ≡ first_of (bounds strict minimum (option_of maximum) reply.now ∷ []) }
 {
     if strict && !within(reply.len(), minimum, maximum) {
-        return Verdict::Failed(length_error(strict, minimum, maximum));
+        return Err(length_error(strict, minimum, maximum));
     }
-    next
-}
-
-fn validate_response_length(strict: bool, reply: &[u8], minimum: usize, maximum: Maximum) -> Verdict
-    ensures { verdict_of result ≡ first_of (bounds strict minimum (maximum_of maximum) reply.now ∷ []) }
-{
-    bounded(strict, minimum, maximum, reply, Verdict::Passed)
+    Ok(())
 }
 
 // "Both modes then": so many bytes in all. "Strict echoes": whether they repeat what the request has.
@@ -80,102 +64,111 @@ fn echoed(
     repeats: bool,
     deviation: ProtocolDeviation,
     reply: &[u8],
-) -> Verdict
+) -> Result<(), Fault>
     ensures { verdict_of result ≡ first_of (at_least strict needed reply.now ∷ unless (in_strict strict repeats) (deviation_of deviation) ∷ []) }
 {
     if reply.len() < needed {
-        return Verdict::Failed(length_error(strict, needed, Maximum::None));
+        return Err(length_error(strict, needed, None));
     }
     if strict && !repeats {
-        return Verdict::Failed(Fault::ProtocolDeviation(deviation));
+        return Err(Fault::ProtocolDeviation(deviation));
     }
-    Verdict::Passed
+    Ok(())
 }
 
 // "Call 5 strict: record length other than M, deviation 15; then empty, (2, none)."
-fn read_memory_by_address(strict: bool, size: &[u8], reply: &[u8]) -> Verdict
+fn read_memory_by_address(strict: bool, size: &[u8], reply: &[u8]) -> Result<(), Fault>
     ensures { verdict_of result ≡ first_of (service_checks strict (read_memory (given []) (given size.now)) reply.now) }
 {
     if strict && !record_length_is(size, rest(reply, 1).len()) {
-        return Verdict::Failed(Fault::ProtocolDeviation(
-            ProtocolDeviation::InvalidMemoryRecordLength,
-        ));
+        return Err(Fault::ProtocolDeviation(ProtocolDeviation::InvalidMemoryRecordLength));
     }
     if strict && reply.len() < 2 {
-        return Verdict::Failed(length_error(strict, 2, Maximum::None));
+        return Err(length_error(strict, 2, None));
     }
-    Verdict::Passed
+    Ok(())
 }
 
 // "6 (2 + both lengths, same)" .. "6 deviations 12, 13, 14 in that order"
-fn write_memory_by_address(strict: bool, address: &[u8], size: &[u8], reply: &[u8]) -> Verdict
+fn write_memory_by_address(
+    strict: bool,
+    address: &[u8],
+    size: &[u8],
+    reply: &[u8],
+) -> Result<(), Fault>
     requires { (length address.now ≤ 15) × (length size.now ≤ 15) }
     ensures { verdict_of result ≡ first_of (service_checks strict (write_memory (given address.now) (given size.now) []) reply.now) }
 {
     let total = 2 + address.len() + size.len();
-    if strict && !within(reply.len(), total, Maximum::At(total)) {
-        return Verdict::Failed(length_error(strict, total, Maximum::At(total)));
+    if strict && !within(reply.len(), total, Some(total)) {
+        return Err(length_error(strict, total, Some(total)));
     }
-    if strict && wide(byte_at(reply, 1)) != size.len() * 16 + address.len() {
-        return Verdict::Failed(Fault::ProtocolDeviation(
+    if strict && byte_at(reply, 1) as usize != size.len() * 16 + address.len() {
+        return Err(Fault::ProtocolDeviation(
             ProtocolDeviation::InvalidAddressAndLengthFormatIdentifier,
         ));
     }
     if strict && !same(part(reply, 2, address.len()), address) {
-        return Verdict::Failed(Fault::ProtocolDeviation(ProtocolDeviation::InvalidMemoryAddress));
+        return Err(Fault::ProtocolDeviation(ProtocolDeviation::InvalidMemoryAddress));
     }
     if strict && !same(rest(rest(reply, 2), address.len()), size) {
-        return Verdict::Failed(Fault::ProtocolDeviation(ProtocolDeviation::InvalidMemorySize));
+        return Err(Fault::ProtocolDeviation(ProtocolDeviation::InvalidMemorySize));
     }
-    Verdict::Passed
+    Ok(())
 }
 
 // "7 and 8 need two bytes after the SID, else (3, none)" .. "7 and 8 deviation 5"
-fn identified(strict: bool, minimum: usize, maximum: Maximum, id: u16, reply: &[u8]) -> Verdict
+fn identified(
+    strict: bool,
+    minimum: usize,
+    maximum: Option<usize>,
+    id: u16,
+    reply: &[u8],
+) -> Result<(), Fault>
     ensures { verdict_of result ≡ first_of
-        (bounds strict minimum (maximum_of maximum) reply.now ∷
+        (bounds strict minimum (option_of maximum) reply.now ∷
         at_least strict 3 reply.now ∷
         strictly strict (eqb (u16_at reply.now 1) id) 5 ∷ []) }
 {
+    validate_response_length(strict, reply, minimum, maximum)?;
     let repeats = u16_at(reply, 1) == id;
-    let echo = echoed(
+    echoed(
         strict,
         3,
         repeats,
         ProtocolDeviation::InvalidDataIdentifier,
         reply,
-    );
-    bounded(strict, minimum, maximum, reply, echo)
+    )
 }
 
 // "9 four, strict exactly four, else (6, 6)"
-fn read_dtc_information(strict: bool, reply: &[u8]) -> Verdict
+fn read_dtc_information(strict: bool, reply: &[u8]) -> Result<(), Fault>
     ensures { verdict_of result ≡ first_of (service_checks strict (fault_count 0) reply.now) }
 {
     if reply.len() < 6 {
-        return Verdict::Failed(length_error(strict, 6, Maximum::At(6)));
+        return Err(length_error(strict, 6, Some(6)));
     }
     if strict && reply.len() != 6 {
-        return Verdict::Failed(length_error(strict, 6, Maximum::At(6)));
+        return Err(length_error(strict, 6, Some(6)));
     }
-    Verdict::Passed
+    Ok(())
 }
 
 // Call 15: "total length must be 3 plus a multiple of 4, else deviation 8 (3, none)"; "fewer than one byte after the sub-function is a length outcome"
-fn read_dtc_information_dtc(strict: bool, reply: &[u8]) -> Verdict
+fn read_dtc_information_dtc(strict: bool, reply: &[u8]) -> Result<(), Fault>
     ensures { verdict_of result ≡ first_of (service_checks strict (fault_list 0) reply.now) }
 {
     if strict && reply.len() % 4 != 3 {
-        return Verdict::Failed(length_error(strict, 3, Maximum::None));
+        return Err(length_error(strict, 3, None));
     }
     if reply.len() < 3 {
-        return Verdict::Failed(length_error(strict, 3, Maximum::None));
+        return Err(length_error(strict, 3, None));
     }
-    Verdict::Passed
+    Ok(())
 }
 
 // "10 two after the sub-function, else (4, none)" .. "10 deviation 6"
-fn routine_control(strict: bool, id: u16, reply: &[u8]) -> Verdict
+fn routine_control(strict: bool, id: u16, reply: &[u8]) -> Result<(), Fault>
     ensures { verdict_of result ≡ first_of (service_checks strict (routine 0 id none) reply.now) }
 {
     let repeats = u16_at(reply, 2) == id;
@@ -189,36 +182,36 @@ fn routine_control(strict: bool, id: u16, reply: &[u8]) -> Verdict
 }
 
 // "13 one, else (2, none)" .. "13 deviation 7"
-fn transfer_data(strict: bool, minimum: usize, counter: u8, reply: &[u8]) -> Verdict
+fn transfer_data(strict: bool, minimum: usize, counter: u8, reply: &[u8]) -> Result<(), Fault>
     ensures { verdict_of result ≡ first_of
         (bounds strict minimum none reply.now ∷
         at_least strict 2 reply.now ∷
         strictly strict (eqb (get_or reply.now 1 0) counter) 7 ∷ []) }
 {
+    validate_response_length(strict, reply, minimum, None)?;
     let repeats = byte_at(reply, 1) == counter;
-    let echo = echoed(
+    echoed(
         strict,
         2,
         repeats,
         ProtocolDeviation::InvalidBlockSequenceCounter,
         reply,
-    );
-    bounded(strict, minimum, Maximum::None, reply, echo)
+    )
 }
 
 // "strict value under 3, deviation 11; value above 2^64 − 1, overflow"
-fn loaded(strict: bool, bytes: &[u8]) -> Verdict
+fn loaded(strict: bool, bytes: &[u8]) -> Result<(), Fault>
     ensures { verdict_of result ≡ first_of (strictly strict (leb 3 (value bytes.now)) 11 ∷ unless (ltb (value bytes.now) (2 ^ 64)) overflow ∷ []) }
 {
     match block_length(bytes) {
-        Number::Overflow => Verdict::Failed(Fault::BlockLengthOverflow),
-        Number::Value(v) => {
+        None => Err(Fault::BlockLengthOverflow),
+        Some(v) => {
             if strict && v < 3 {
-                return Verdict::Failed(Fault::ProtocolDeviation(
+                return Err(Fault::ProtocolDeviation(
                     ProtocolDeviation::InvalidMaxNumberOfBlockLength,
                 ));
             }
-            Verdict::Passed
+            Ok(())
         }
     }
 }
@@ -227,30 +220,28 @@ fn loaded(strict: bool, bytes: &[u8]) -> Verdict
 pub fn length_bytes(reply: &[u8]) -> usize
     ensures { (result ≡ length_bytes reply.now) × (result < 16) }
 {
-    wide(byte_at(reply, 1)) / 16
+    byte_at(reply, 1) as usize / 16
 }
 
 // "Calls 11 and 12: empty (2, none); strict low nibble not 0, deviation 10; strict n = 0, deviation 9; fewer than n bytes, or in strict more, (n + 2, n + 2)"
-fn request_download_upload(strict: bool, reply: &[u8]) -> Verdict
+fn request_download_upload(strict: bool, reply: &[u8]) -> Result<(), Fault>
     ensures { verdict_of result ≡ first_of (loading strict reply.now (length_bytes reply.now) (value (block_length reply.now))) }
 {
     if reply.len() < 2 {
-        return Verdict::Failed(length_error(strict, 2, Maximum::None));
+        return Err(length_error(strict, 2, None));
     }
     if strict && byte_at(reply, 1) % 16 != 0 {
-        return Verdict::Failed(Fault::ProtocolDeviation(
-            ProtocolDeviation::InvalidLengthFormatIdentifier,
-        ));
+        return Err(Fault::ProtocolDeviation(ProtocolDeviation::InvalidLengthFormatIdentifier));
     }
     let n = length_bytes(reply);
     if strict && n == 0 {
-        return Verdict::Failed(Fault::ProtocolDeviation(ProtocolDeviation::InvalidLengthFormat));
+        return Err(Fault::ProtocolDeviation(ProtocolDeviation::InvalidLengthFormat));
     }
     if reply.len() < n + 2 {
-        return Verdict::Failed(length_error(strict, n + 2, Maximum::At(n + 2)));
+        return Err(length_error(strict, n + 2, Some(n + 2)));
     }
     if strict && reply.len() > n + 2 {
-        return Verdict::Failed(length_error(strict, n + 2, Maximum::At(n + 2)));
+        return Err(length_error(strict, n + 2, Some(n + 2)));
     }
     loaded(strict, part(reply, 2, n))
 }
@@ -266,38 +257,39 @@ fn transfer_length(data: Data) -> usize
 }
 
 // The checks of a call; of an address or a size the first fifteen bytes count, and no request has more (refusals 2 and 3).
-pub fn verdict(strict: bool, call: Call, address: &[u8], size: &[u8], reply: &[u8]) -> Verdict
+pub fn verdict(
+    strict: bool,
+    call: Call,
+    address: &[u8],
+    size: &[u8],
+    reply: &[u8],
+) -> Result<(), Fault>
     ensures { verdict_of result ≡ first_of (service_checks strict (asked call address.now size.now) reply.now) }
 {
     let address = part(address, 0, 15);
     let size = part(size, 0, 15);
     match call {
-        Call::Request(_, _, _) => Verdict::Passed,
-        Call::DiagnosticSessionControl(_) => validate_response_length(
-            strict,
-            reply,
-            6,
-            Maximum::At(6),
-        ),
+        Call::Request(_, _, _) => Ok(()),
+        Call::DiagnosticSessionControl(_) => validate_response_length(strict, reply, 6, Some(6)),
         Call::EcuReset(sub) => {
             if sub % 128 == 4 {
-                validate_response_length(strict, reply, 3, Maximum::At(3))
+                validate_response_length(strict, reply, 3, Some(3))
             } else {
-                validate_response_length(strict, reply, 2, Maximum::At(2))
+                validate_response_length(strict, reply, 2, Some(2))
             }
         }
         Call::SecurityAccess(sub, _) => {
             if sub % 2 == 1 {
-                validate_response_length(strict, reply, 3, Maximum::None)
+                validate_response_length(strict, reply, 3, None)
             } else {
-                validate_response_length(strict, reply, 2, Maximum::At(2))
+                validate_response_length(strict, reply, 2, Some(2))
             }
         }
-        Call::TesterPresent => validate_response_length(strict, reply, 2, Maximum::At(2)),
+        Call::TesterPresent => validate_response_length(strict, reply, 2, Some(2)),
         Call::ReadMemoryByAddress => read_memory_by_address(strict, size, reply),
         Call::WriteMemoryByAddress => write_memory_by_address(strict, address, size, reply),
-        Call::ReadDataByIdentifier(id) => identified(strict, 4, Maximum::None, id, reply),
-        Call::WriteDataByIdentifier(id) => identified(strict, 3, Maximum::At(3), id, reply),
+        Call::ReadDataByIdentifier(id) => identified(strict, 4, None, id, reply),
+        Call::WriteDataByIdentifier(id) => identified(strict, 3, Some(3), id, reply),
         Call::ReadDTCInformation(_) => read_dtc_information(strict, reply),
         Call::RoutineControl(_, id, _) => routine_control(strict, id, reply),
         Call::RequestDownload(_, _) => request_download_upload(strict, reply),
@@ -305,7 +297,7 @@ pub fn verdict(strict: bool, call: Call, address: &[u8], size: &[u8], reply: &[u
         Call::TransferData(counter, data) => {
             transfer_data(strict, transfer_length(data), counter, reply)
         }
-        Call::RequestTransferExit(_) => Verdict::Passed,
+        Call::RequestTransferExit(_) => Ok(()),
         Call::ReadDTCInformationDTC(_) => read_dtc_information_dtc(strict, reply),
     }
 }

@@ -8,6 +8,7 @@ use table::NUMBERS;
 
 mod table;
 
+// A number, 0 for a code without a name: the C interface hands it out as it is.
 pub fn name_number(code: u8) -> u8
     ensures { result ≡ name_number code }
 {

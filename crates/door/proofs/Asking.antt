@@ -1,31 +1,28 @@
--- What the code was told of the fields, and of the limit: whether they ask a call.
+-- The limit that the code asks with, and that it asks one call.
+use Rattle.std.specs.Prelude as code
+use Rattle.std.specs.Prelude.{Some, None}
 use Prim.Native.Nat.{ℕ}
-use mathlib.Core.Bool.{Bool, true, false, cond}
-use mathlib.Core.Path.{◌≡◌, refl, sym, ◌∙◌, ap, subst}
+use mathlib.Core.Bool.{Bool, true, false, cond, true≢false}
+use mathlib.Core.Path.{◌≡◌, refl, sym, ap, ◌∙◌}
 use mathlib.Core.Option.{none, some}
 use lib.Dec.{leb}
-use Rattle.rules.specs.Logs.{Header, uses_of, fields_ok}
-use Rattle.exchange.specs.declared.types.NoticeLimit.TheVariants.{Unlimited, AtMost}
-use Rattle.exchange.specs.Meaning.{limit_of}
-use Rattle.log_call.specs.Asking.{AskedBy}
-use Rattle.log_call.specs.declared.Fields.{Fields}
-use Rattle.log_call.specs.declared.Fields.TheVariants.{Unsound}
-use Rattle.door.specs.Door.{limit_in, fits, asks_one, limit_for}
-
--- What the code was told of the header that it made: what it asks, and, if its fields suit a call, whether the arguments fit.
-pub told_of : {h made : Header} {x y : Fields} → made ≡ h → x ≡ y → AskedBy made x → AskedBy h y
-told_of {h} {made} {x} {y} e f k = subst (λ (m : Header). AskedBy m y) e (subst (λ (z : Fields). AskedBy made z) f k)
-
-pub unsuited : {h made : Header} {x : Fields} (limit n : ℕ) → made ≡ h → x ≡ Unsound → AskedBy made x → asks_one h limit n ≡ false
-unsuited {h} limit n e f k = rw (told_of {h = h} e f k)
-
-pub suited : {h made : Header} (limit n : ℕ) {b : Bool} → made ≡ h → fields_ok h (uses_of h.call) ≡ true → b ≡ fits made limit n → asks_one h limit n ≡ b
-suited limit n e sound f = rw sound (sym (f ∙ ap (λ (k : Header). fits k limit n) e))
+use Rattle.exchange.specs.Meaning.{option_of}
+use Rattle.rules.specs.Logs.{Header}
+use Rattle.calls.specs.declared.Ask.{Ask}
+use Rattle.log_call.proofs.Unique.{asks-unique}
+use Rattle.door.specs.Door.{limit_in, limit_for, limited_to, AskedFor}
 
 -- The code's limit is the one that the number says.
-pub limit-said : (limit : ℕ) → limit_of (limit_for limit) ≡ limit_in limit
+pub limit-said : (limit : ℕ) → option_of (limit_for limit) ≡ limit_in limit
 limit-said limit = go (leb limit 255)
   where
-    go : (b : Bool) → limit_of (cond b (AtMost limit) Unlimited) ≡ cond b (some limit) none
+    go : (b : Bool) → option_of (cond b (Some limit) None) ≡ cond b (some limit) none
     go true = refl
     go false = refl
+
+-- At most one answer fits the contract of `ask_for`.
+pub ask-for-unique : (h : Header) (k n : ℕ) (r q : code.Option Ask) → AskedFor h k n r → AskedFor h k n q → r ≡ q
+ask-for-unique h k n (Some r) (Some q) x y = ap Some (x.3 ∙ ap (limited_to (limit_for k)) (asks-unique x.2 y.2) ∙ sym y.3)
+ask-for-unique h k n (Some r) None x y = absurd (true≢false (sym x.0 ∙ y))
+ask-for-unique h k n None (Some q) x y = absurd (true≢false (sym y.0 ∙ x))
+ask-for-unique h k n None None x y = refl

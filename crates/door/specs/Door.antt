@@ -1,15 +1,15 @@
 -- What the door's numbers and slices ask, and when they ask nothing that document 01 has.
-use Rattle.std.specs.Prelude.{ℕ, ◌+◌, Bool, cond, ◌&&◌, ◌||◌, List, leb, eqb, take, drop}
+use Rattle.std.specs.Prelude as code
+use Rattle.std.specs.Prelude.{Some, None}
+use Rattle.std.specs.Prelude.{ℕ, ◌+◌, Bool, true, false, cond, ◌&&◌, ◌||◌, ◌≡◌, List, leb, eqb, take, drop}
 use Rattle.std.proofs.Math.Option.{Option, none, some}
 use Rattle.rules.specs.Calls.{Field, given}
 use Rattle.rules.specs.Client.{Result, call}
 use Rattle.rules.specs.Logs.{Header, form_in, flag, uses_of, fields_ok, setting_of}
 use Rattle.rules.specs.Limited.{in_limit}
 use Rattle.rules.specs.Settings.{Lent}
-use Rattle.exchange.specs.declared.types.NoticeLimit.{NoticeLimit}
-use Rattle.exchange.specs.declared.types.NoticeLimit.TheVariants.{Unlimited, AtMost}
 use Rattle.calls.specs.declared.Ask.{Ask}
-use Rattle.log_call.specs.Asking.{chosen}
+use Rattle.log_call.specs.Asking.{chosen, Asks}
 
 -- Version 2 has its events addressed.
 abbrev pub version_of : Bool → ℕ
@@ -85,10 +85,10 @@ lent_in h buffer events replies = record {
 }
 
 -- The code's ask, with this limit.
-abbrev pub limit_for : ℕ → NoticeLimit
-limit_for k = cond (leb k 255) (AtMost k) Unlimited
+abbrev pub limit_for : ℕ → code.Option ℕ
+limit_for k = cond (leb k 255) (Some k) None
 
-abbrev pub limited_to : NoticeLimit → Ask → Ask
+abbrev pub limited_to : code.Option ℕ → Ask → Ask
 limited_to limit ask = record {
   call = ask.call;
   quiet = ask.quiet;
@@ -98,3 +98,8 @@ limited_to limit ask = record {
   limit = limit;
   channel = ask.channel;
 }
+
+-- What the code asks of the fields and n argument bytes, with this limit.
+abbrev pub AskedFor : Header → ℕ → ℕ → code.Option Ask → Type 0
+AskedFor h k n (Some r) = (asks_one h k n ≡ true) × (ask : Ask) × Asks h ask × (r ≡ limited_to (limit_for k) ask)
+AskedFor h k n None = asks_one h k n ≡ false

@@ -3,18 +3,11 @@
 
 ghost use Rattle.std.specs.Prelude.{◌≡◌};
 ghost use Rattle.logs.specs.Layout.{said};
-ghost use Rattle.door.specs.Door.{version_of, fields, is_limit, fits, limit_for, limited_to, has_alfid};
+ghost use Rattle.door.specs.Door.{fields, is_limit, fits, limit_for, limited_to, has_alfid, AskedFor};
 
 use calls::Ask;
-use exchange::types::NoticeLimit;
+use log_call::ask_of;
 use logs::header::Header;
-
-// Version 2 has its events addressed.
-fn version_of(addressed: bool) -> u16
-    ensures { result ≡ version_of addressed }
-{
-    if addressed { 2 } else { 1 }
-}
 
 pub fn fields(
     call: u8,
@@ -32,7 +25,8 @@ pub fn fields(
     ensures { said result ≡ fields call flags value sub address_length size_length p2 star overall addressed listens }
 {
     Header {
-        version: version_of(addressed),
+        // version 2 has its events addressed
+        version: if addressed { 2 } else { 1 },
         call,
         flags,
         value,
@@ -63,61 +57,42 @@ fn is_limit(limit: u16) -> bool
 }
 
 // Whether there is such a call and such a limit, and n argument bytes are as many as its fields say.
+#[tactic(auto, unfolding(crate::specs::Door::fits))]
 pub fn fits(h: Header, limit: u16, n: usize) -> bool
     ensures { result ≡ fits (said h) limit n }
 {
     let arguments = h.arguments as usize;
-    if h.call > 15 {
-        return false;
-    }
-    if !is_limit(limit) {
-        return false;
-    }
-    if n < arguments {
-        return false;
-    }
-    if h.flags / 32 % 2 == 1 {
-        return true;
-    }
-    n <= arguments
+    h.call <= 15 && is_limit(limit) && arguments <= n && (h.flags / 32 % 2 == 1 || n <= arguments)
 }
 
-fn limit_for(limit: u16) -> NoticeLimit
+fn limit_for(limit: u16) -> Option<u8>
     ensures { result ≡ limit_for limit }
 {
-    if limit > 255 {
-        NoticeLimit::Unlimited
-    } else {
-        NoticeLimit::AtMost(limit as u8)
-    }
+    u8::try_from(limit).ok()
 }
 
 pub fn limited(ask: Ask, limit: u16) -> Ask
     ensures { result ≡ limited_to (limit_for limit) ask }
 {
-    let call = ask.call;
-    let overall = ask.overall;
-    let limit = limit_for(limit);
-    let channel = ask.channel;
     Ask {
-        call,
-        quiet: ask.quiet,
-        strict: ask.strict,
-        server: ask.server,
-        overall,
-        limit,
-        channel,
+        limit: limit_for(limit),
+        ..ask
     }
+}
+
+// What the fields ask under this limit, with n argument bytes. None where they ask no call, or the limit or the bytes suit none.
+pub fn ask_for(h: Header, limit: u16, n: usize) -> Option<Ask>
+    ensures { AskedFor (said h) limit n result }
+{
+    let ask = ask_of(h)?;
+    if !fits(h, limit, n) {
+        return None;
+    }
+    Some(limited(ask, limit))
 }
 
 pub fn has_alfid(call: u8) -> bool
     ensures { result ≡ has_alfid call }
 {
-    match call {
-        5 => true,
-        6 => true,
-        11 => true,
-        12 => true,
-        _ => false,
-    }
+    matches!(call, 5 | 6 | 11 | 12)
 }

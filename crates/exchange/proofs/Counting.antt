@@ -1,6 +1,5 @@
 -- Counts that stand for lists of times: one more, and how large they are; and what T leaves of a settled exchange.
-use Prim.Native.Nat.{ℕ, suc, ◌+◌, ◌≤◌, ◌<◌, min}
-use native.Mathlib.Numerals.{add-one}
+use Prim.Native.Nat.{ℕ, suc, ◌+◌, ◌≤◌, ◌<◌}
 use native.Mathlib.Omega.{arith}
 use mathlib.Core.Bool.{Bool, true, false, cond}
 use mathlib.Core.Path.{◌≡◌, refl}
@@ -9,7 +8,6 @@ use mathlib.Core.Option.{Option, none, some}
 use lib.Dec.{leb}
 use lib.ListN.{length, length-append}
 use Rattle.rules.specs.Events.{up_to}
-use Rattle.exchange.specs.declared.types.Count.{Count}
 use Rattle.exchange.specs.Counts.{in_time, count_to, count_of, one_more, counted, plus}
 
 pub count_most : (overall : Option ℕ) (ts : List ℕ) → count_to overall ts ≤ length ts

@@ -4,7 +4,6 @@ use native.Mathlib.Nat.{add-sub_cancel_left}
 use native.Mathlib.Numerals.{add-one}
 use native.Mathlib.Omega.{arith}
 use mathlib.Core.Bool.{Bool, true, false, cond, ◌&&◌, and-true, and-false, and-eq-true_iff}
-use mathlib.Core.Logic.{◌≢◌}
 use mathlib.Core.Path.{◌≡◌, refl, sym, ap, ap₂, ◌∙◌}
 use mathlib.Core.List.{List, [], ◌∷◌}
 use borrow.Author.Tests.{le-leb, lt-leb, lt-ltb, eq-eqb, ne_eqb, leb-true}
@@ -23,11 +22,6 @@ use Rattle.wire.proofs.Ends.{u16-past, u32-past}
 pub size_fits : (form : Form) (i n : ℕ) → i ≤ n / event_size form → i * event_size form ≤ n
 size_fits plain i n h = omega arith
 size_fits addressed i n h = omega arith
-
--- One that is whole ends inside.
-pub size-inside : (form : Form) (i n : ℕ) → i < n / event_size form → i * event_size form + event_size form ≤ n
-size-inside plain i n h = omega arith
-size-inside addressed i n h = omega arith
 
 pub no-more-bytes : (form : Form) (i n : ℕ) → n / event_size form < i → n ≤ i * event_size form
 no-more-bytes plain i n h = omega arith
@@ -126,29 +120,11 @@ module _ (listens : ℕ) (r : List ℕ) (e : Entry) where
       go true = refl
       go false = h
 
-  pub heard-ended : kind_heard listens e ≡ 2 → event_of listens r e ≡ Event.ended e.time
-  heard-ended h = go (foreign listens e) h
-    where
-      go : (b : Bool) → cond b 1 e.kind ≡ 2 → cond b (Event.idle e.time) (said r e) ≡ Event.ended e.time
-      go true k = absurd (omega arith)
-      go false k = rw (ne_eqb e.kind 0 (λ z. absurd (omega arith)), ne_eqb e.kind 1 (λ z. absurd (omega arith)), eq-eqb e.kind 2 k)
-
-  pub heard-failed : kind_heard listens e ≢ 0 → kind_heard listens e ≢ 1 → kind_heard listens e ≢ 2 → event_of listens r e ≡ Event.failed e.time e.size
-  heard-failed = go (foreign listens e)
-    where
-      go : (b : Bool) → cond b 1 e.kind ≢ 0 → cond b 1 e.kind ≢ 1 → cond b 1 e.kind ≢ 2
-          → cond b (Event.idle e.time) (said r e) ≡ Event.failed e.time e.size
-      go true h k m = absurd (k refl)
-      go false h k m = rw (ne_eqb e.kind 0 h, ne_eqb e.kind 1 k, ne_eqb e.kind 2 m)
-
 pub are-bytes : (l : List ℕ) → ((i : ℕ) → get_or l i 0 < 256) → every is_byte l ≡ true
 are-bytes [] h = refl
 are-bytes (x ∷ xs) h = rw (lt-ltb x 256 (h zero)) (are-bytes xs (λ i. h (suc i)))
 
 module _ (r : List ℕ) (e : Entry) (time : e.time < 2 ^ 32) where
-  pub sound-other : e.size < 2 ^ 16 → (e.kind ≡ 0 → ⊥) → sound r e ≡ (leb e.kind 3 && eqb e.source 0)
-  sound-other size h = rw (le-leb e.time 4294967295 (omega arith), ne_eqb e.kind 0 h, le-leb e.size 65535 (omega arith), and-true)
-
   pub sound-reply : every is_byte r ≡ true → e.kind ≡ 0 → sound r e ≡ (leb e.size 4095 && leb (e.offset + e.size) (length r))
   sound-reply bytes h =
       rw (

@@ -1,12 +1,8 @@
 -- Places in the lent reply bytes.
 use Prim.Native.Nat.{ℕ, ◌+◌, ◌-◌, ◌≤◌}
 use native.Mathlib.Omega.{arith}
-use mathlib.Core.Logic.{◌≢◌}
 use mathlib.Core.Path.{◌≡◌, sym, ap, ◌∙◌}
 use mathlib.Core.List.{List, ◌++◌}
-use Rattle.rules.specs.Answers.{part}
-use Rattle.rules.specs.Events.{Entry}
-use Rattle.exchange.specs.Places.{Named}
 use lib.ListN.{length, take, drop, length-take, length-drop, take-append-drop}
 use lib.Seq.{take-append_seam, take_at, drop-append-le, drop-drop}
 
@@ -29,17 +25,6 @@ part-inside l at n r e k = omega (arith, ap length e ∙ length-take n (drop at 
 pub whole-inside : (l : List ℕ) (at n : ℕ) → length (take n (drop at l)) ≡ n → at ≤ length l → at + n ≤ length l
 whole-inside l at n e h = omega (arith, length-take n (drop at l), length-drop at l)
 
--- As long as its bytes, it lies inside if it has any.
-pub some-inside : (l : List ℕ) (at n : ℕ) → length (take n (drop at l)) ≡ n → n ≢ 0 → at + n ≤ length l
-some-inside l at n e h = omega (arith, length-take n (drop at l), length-drop at l)
-
 -- A part names no more than is there once it is cut at the end of the bytes.
 pub cut-part : (l : List ℕ) (at n : ℕ) {r : List ℕ} → r ≡ take n (drop at l) → take (length r) (drop at l) ≡ r
 cut-part l at n here = rw here (take-taken n (drop at l))
-
--- The part that an event names, cut at the end of the bytes.
-pub named-cut : (l : List ℕ) (e : Entry) (r : List ℕ) → r ≡ take e.size (drop e.offset l)
-    → Named l e (record { at = e.offset; len = length r })
-named-cut l e r here =
-    let cut = cut-part l e.offset e.size here in
-    record { means = ap (λ (bs : List ℕ). part e.offset bs) (cut ∙ here); whole = ap length cut }

@@ -4,7 +4,7 @@ use native.Mathlib.Nat.{sub-zero}
 use native.Mathlib.Omega.{arith}
 use mathlib.Core.Bool.{Bool, true, false, cond, and-eq-true_iff}
 use mathlib.Core.Path.{◌≡◌, refl, sym, ap, subst, ◌∙◌}
-use mathlib.Core.List.{List, [], ◌∷◌, ◌++◌, map}
+use mathlib.Core.List.{List, [], ◌++◌, map}
 use mathlib.Core.Option.{Option, none, some}
 use lib.Dec.{leb}
 use lib.ListN.{length, length-append}
@@ -24,10 +24,10 @@ use Rattle.exchange.specs.declared.types.Turn.{Turn}
 use Rattle.exchange.specs.declared.types.Turn.TheVariants.{On, Ends}
 use Rattle.exchange.specs.Counts.{count_of, plus}
 use Rattle.exchange.specs.Guarded.{over}
-use Rattle.exchange.specs.Meaning.{outcome_of, part_of, answer_of}
-use Rattle.exchange.specs.Places.{Inside, InsideOutcome, WholeReply, beginning, SettlesAs, TurnsTo, Turns, Answers}
+use Rattle.exchange.specs.Meaning.{outcome_of, part_of}
+use Rattle.exchange.specs.Places.{Inside, InsideOutcome, WholeReply, beginning, TurnsTo, Turns, Answers}
 use Rattle.exchange.specs.States.{state_of, start_of, passed_by, silence_of, under_of}
-use Rattle.exchange.proofs.Counting.{count_none, plus-counts}
+use Rattle.exchange.proofs.Counting.{plus-counts}
 use Rattle.exchange.proofs.Entries.{next-entry, idle-heard, beginning-inside, sound-whole, all_sound, few-entries}
 use Rattle.exchange.proofs.Placing.{whole-inside}
 use Rattle.exchange.proofs.Turning.{turns-idle, left, settle-none, settle-late, settle-on, settle-ends}

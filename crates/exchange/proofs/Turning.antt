@@ -2,7 +2,6 @@
 use Prim.Native.Nat.{ℕ, ◌+◌, ◌-◌, ◌≤◌, ◌<◌}
 use native.Mathlib.Omega.{arith}
 use mathlib.Core.Bool.{Bool, true, false, cond, not, ◌&&◌}
-use mathlib.Core.Logic.{◌≢◌}
 use mathlib.Core.Path.{◌≡◌, refl, sym, ap, subst, ◌∙◌}
 use mathlib.Core.List.{List, [], ◌∷◌, map}
 use mathlib.Core.Option.{Option}
@@ -28,20 +27,15 @@ use Rattle.exchange.specs.declared.types.State.{State}
 use Rattle.exchange.specs.declared.types.Turn.{Turn}
 use Rattle.exchange.specs.declared.types.Turn.TheVariants.{On, Ends}
 use Rattle.exchange.specs.Counts.{counted}
-use Rattle.exchange.specs.States.{no_place}
 use Rattle.exchange.specs.Meaning.{outcome_of, step_of, part_of, kind_heard}
 use Rattle.exchange.specs.Places.{Looked, Named, WholeReply, cut, beginning, TurnsTo, Turns}
 use Rattle.exchange.proofs.Placing.{take-taken}
-use Rattle.exchange.proofs.Entries.{next-entry, no-entry, heard-reply, heard-idle, heard-ended, heard-failed}
+use Rattle.exchange.proofs.Entries.{next-entry, no-entry, heard-reply, heard-idle}
 
 -- The reply that an event names is judged as the part at its place is.
 seen_as : (strict : Bool) (a : Asked) (hush : Bool) {e : Entry} {l : List ℕ} {p : Place} {s : Step} → Named l e p
     → Looked l s (look strict a hush (part_of l p)) → look strict a hush (named l e) ≡ step_of l s
 seen_as strict a hush place seen = ap (look strict a hush) (sym place.means) ∙ sym seen.means
-
--- All that a cut reply names is there.
-pub cut-whole : (l : List ℕ) (e : Entry) → WholeReply l (cut l e)
-cut-whole l e k = rw (eq-eqb e.kind 0 k) (ap length (take-taken e.size (drop e.offset l)))
 
 -- A reply is heard alike whether it is cut or not, and so it turns the exchange alike.
 cut-heard : (listens : ℕ) (l : List ℕ) (e : Entry) → event_of listens l (cut l e) ≡ event_of listens l e
@@ -138,20 +132,6 @@ module _ {strict : Bool} {a : Asked} {overall : Option ℕ} {listens : ℕ} {bef
   pub turns-idle : kind ≡ 1
       → Turns strict a overall listens before e l (On (record { hush = before.hush; deadline = before.deadline; read = read; notices = before.notices }))
   turns-idle h = record { means = rw (heard-idle listens l e (sym heard ∙ h), counts) }
-
-  pub turns-ended : kind ≡ 2
-      → Turns strict a overall listens before e l (Ends (record { outcome = Disconnected; time = e.time; read = read; notices = before.notices; reply = no_place }))
-  turns-ended h = record {
-    means = rw (heard-ended listens l e (sym heard ∙ h))
-        (record { means = refl; time = refl; read = counts; notices = refl; reply = refl; inside = tt; whole = refl; starts = omega arith });
-  }
-
-  pub turns-failed : kind ≢ 0 → kind ≢ 1 → kind ≢ 2
-      → Turns strict a overall listens before e l (Ends (record { outcome = Transport e.size; time = e.time; read = read; notices = before.notices; reply = no_place }))
-  turns-failed h k m = record {
-    means = rw (heard-failed listens l e (λ z. h (heard ∙ z)) (λ z. k (heard ∙ z)) (λ z. m (heard ∙ z)))
-        (record { means = refl; time = refl; read = counts; notices = refl; reply = refl; inside = tt; whole = refl; starts = omega arith });
-  }
 
 -- The events that are left from number i on, of n.
 abbrev pub left : Form → ℕ → List ℕ → List ℕ → ℕ → ℕ → List events.Event

@@ -1,4 +1,6 @@
 -- At most one answer fits each public contract: the meaning, with where the places lie, gives the answer back.
+use Rattle.std.specs.Prelude as code
+use Rattle.std.specs.Prelude.{Some, None}
 use Prim.Native.Nat.{ℕ}
 use native.Mathlib.Omega.{arith}
 use mathlib.Core.Bool.{Bool}
@@ -11,8 +13,7 @@ use Rattle.rules.specs.Answers as rules
 use Rattle.rules.specs.Answers.{Part, nowhere, deviation, deviation8, bad_length, overflow, positive, suppressed, negative, timeout, pending_limit, disconnected, transport, fault, refused}
 use Rattle.rules.specs.Events.{Entry}
 use Rattle.rules.specs.Exchange as exchange
-use Rattle.exchange.specs.declared.error.Maximum.{Maximum}
-use Rattle.exchange.specs.declared.error.Maximum.TheVariants as maximum
+use Rattle.wire.proofs.Refusals.{refusal_of, refusal-back}
 use Rattle.exchange.specs.declared.error.ProtocolDeviation.{ProtocolDeviation}
 use Rattle.exchange.specs.declared.error.ProtocolDeviation.TheVariants.{InvalidServiceId, InvalidRequestServiceId, InvalidSubFunction}
 use Rattle.exchange.specs.declared.error.ProtocolDeviation.TheVariants.{UnexpectedPositiveResponse, InvalidDataIdentifier}
@@ -34,12 +35,12 @@ use Rattle.exchange.specs.declared.types.State.{State}
 use Rattle.exchange.specs.declared.types.Turn.{Turn}
 use Rattle.exchange.specs.declared.types.Turn.TheVariants.{On, Ends}
 use Rattle.exchange.specs.declared.types.Answer.{Answer}
-use Rattle.exchange.specs.Meaning.{maximum_of, deviation_of, fault_of, part_of, outcome_of, step_of, answer_of, entry_of}
+use Rattle.exchange.specs.Meaning.{option_of, deviation_of, fault_of, part_of, outcome_of, step_of, answer_of, entry_of}
 use Rattle.exchange.specs.Places.{Inside, InsideOutcome, InsideStep, Looked, Answers, Named, SettlesAs, TurnsTo, Turns}
 
-abbrev maximum_from : Option ℕ → Maximum
-maximum_from none = maximum.None
-maximum_from (some n) = maximum.At n
+abbrev maximum_from : Option ℕ → code.Option ℕ
+maximum_from none = None
+maximum_from (some n) = Some n
 
 -- By number, from 0 on; no deviation has the number 0, and 8 has bounds.
 abbrev deviations : List ProtocolDeviation
@@ -78,7 +79,7 @@ outcome_from timeout = outcome.Timeout
 outcome_from disconnected = outcome.Disconnected
 outcome_from (transport n) = outcome.Transport n
 outcome_from (fault f) = outcome.Fault (fault_from f)
-outcome_from (refused n) = outcome.Refused n
+outcome_from (refused n) = outcome.Refused (refusal_of n)
 outcome_from pending_limit = outcome.PendingLimit
 
 abbrev pub step_from : exchange.Step → Step
@@ -94,9 +95,9 @@ answer_from x = record {
   reply = place_from x.reply;
 }
 
-maximum-back : (m : Maximum) → maximum_from (maximum_of m) ≡ m
-maximum-back maximum.None = refl
-maximum-back (maximum.At n) = refl
+maximum-back : (m : code.Option ℕ) → maximum_from (option_of m) ≡ m
+maximum-back None = refl
+maximum-back (Some n) = refl
 
 deviation-back : (d : ProtocolDeviation) → fault_from (deviation_of d) ≡ wrong.ProtocolDeviation d
 deviation-back InvalidServiceId = refl
@@ -106,7 +107,7 @@ deviation-back UnexpectedPositiveResponse = refl
 deviation-back InvalidDataIdentifier = refl
 deviation-back InvalidRoutineIdentifier = refl
 deviation-back InvalidBlockSequenceCounter = refl
-deviation-back (InvalidResponseLength least most) = ap (λ (m : Maximum). wrong.ProtocolDeviation (InvalidResponseLength least m)) (maximum-back most)
+deviation-back (InvalidResponseLength least most) = ap (λ (m : code.Option ℕ). wrong.ProtocolDeviation (InvalidResponseLength least m)) (maximum-back most)
 deviation-back InvalidLengthFormat = refl
 deviation-back InvalidLengthFormatIdentifier = refl
 deviation-back InvalidMaxNumberOfBlockLength = refl
@@ -143,7 +144,7 @@ module _ (l : List ℕ) where
   outcome-back outcome.Disconnected h = refl
   outcome-back (outcome.Transport n) h = refl
   outcome-back (outcome.Fault f) h = ap outcome.Fault (fault-back f)
-  outcome-back (outcome.Refused n) h = refl
+  outcome-back (outcome.Refused r) h = ap outcome.Refused (refusal-back r)
   outcome-back outcome.PendingLimit h = refl
 
   step_back : (s : Step) → InsideStep l s → step_from (step_of l s) ≡ s

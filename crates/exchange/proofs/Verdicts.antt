@@ -3,7 +3,7 @@ use Prim.Native.Nat.{ℕ, ◌≤◌, ◌<◌}
 use native.Mathlib.Omega.{arith}
 use mathlib.Core.Bool.{Bool, true, false, cond, not}
 use mathlib.Core.Logic.{◌⊎◌, inl, inr}
-use mathlib.Core.Path.{◌≡◌, refl, sym, ap, ◌∙◌}
+use mathlib.Core.Path.{◌≡◌, refl, sym, ◌∙◌}
 use mathlib.Core.List.{List, [], ◌∷◌, ◌++◌}
 use mathlib.Core.Option.{Option, none, some}
 use borrow.Author.Tests.{leb-true}
@@ -51,13 +51,6 @@ strict-passes {strict = strict} (inl a) right lenient = passes strict (right a)
     passes : (s : Bool) {t : Bool} → t ≡ true → in_strict s t ≡ true
     passes true e = e
     passes false e = refl
-
-pub right-passes : (strict : Bool) → in_strict strict true ≡ true
-right-passes true = refl
-right-passes false = refl
-
-pub lenient-passes : (strict test : Bool) → strict ≡ false → in_strict strict test ≡ true
-lenient-passes strict test e = rw e
 
 -- A reply that is granted has the bytes before the data.
 echoed-head : (strict : Bool) (sub : Option ℕ) (r : List ℕ) (more : List (Check Fault)) → 0 < length r → first_of (echoing strict sub r ++ more) ≡ none

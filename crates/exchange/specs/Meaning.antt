@@ -1,5 +1,6 @@
 -- "Where an answer is an enum, a definition gives this paper's number and values for each case of the enum." Each value of the code, as `rules` says it.
-use Rattle.std.specs.Prelude.{ℕ, cond, List, take, drop}
+use Rattle.std.specs.Prelude as code
+use Rattle.std.specs.Prelude.{ℕ, cond, List, take, drop, Some, None, Ok, Err, Result}
 use Rattle.std.proofs.Math.Option.{Option, none, some}
 use Rattle.rules.specs.Answers as rules
 use Rattle.rules.specs.Answers.{Part, part, deviation, deviation8, bad_length, overflow, positive, suppressed, negative, timeout, pending_limit, disconnected, transport, fault, refused}
@@ -8,22 +9,13 @@ use Rattle.rules.specs.Events as events
 use Rattle.rules.specs.Events.{Entry, foreign}
 use Rattle.rules.specs.Exchange as exchange
 use Rattle.rules.specs.Settings as settings
-use Rattle.exchange.specs.declared.error.Maximum.{Maximum}
-use Rattle.exchange.specs.declared.error.Maximum.TheVariants as maximum
+use Rattle.wire.specs.Refusing.{refusal_number}
 use Rattle.exchange.specs.declared.error.ProtocolDeviation.{ProtocolDeviation}
 use Rattle.exchange.specs.declared.error.ProtocolDeviation.TheVariants as protocol
 use Rattle.exchange.specs.declared.error.Fault.{Fault}
 use Rattle.exchange.specs.declared.error.Fault.TheVariants as wrong
-use Rattle.exchange.specs.declared.error.Verdict.{Verdict}
-use Rattle.exchange.specs.declared.error.Verdict.TheVariants.{Passed, Failed}
 use Rattle.exchange.specs.declared.types.Place.{Place}
-use Rattle.exchange.specs.declared.types.SubFunction.{SubFunction}
-use Rattle.exchange.specs.declared.types.SubFunction.TheVariants.{Absent, Given}
-use Rattle.exchange.specs.declared.types.RequestTimeout.{RequestTimeout}
-use Rattle.exchange.specs.declared.types.RequestTimeout.TheVariants.{Never, At}
 use Rattle.exchange.specs.declared.types.Timing.{Timing}
-use Rattle.exchange.specs.declared.types.NoticeLimit.{NoticeLimit}
-use Rattle.exchange.specs.declared.types.NoticeLimit.TheVariants.{Unlimited, AtMost}
 use Rattle.exchange.specs.declared.types.Asked.{Asked}
 use Rattle.exchange.specs.declared.types.Form.{Form}
 use Rattle.exchange.specs.declared.types.Form.TheVariants.{Plain, Addressed}
@@ -34,9 +26,10 @@ use Rattle.exchange.specs.declared.types.Step.{Step}
 use Rattle.exchange.specs.declared.types.Step.TheVariants.{Pending, Settles}
 use Rattle.exchange.specs.declared.types.Answer.{Answer}
 
-abbrev pub maximum_of : Maximum → Option ℕ
-maximum_of maximum.None = none
-maximum_of (maximum.At n) = some n
+-- What may be absent: the sub-function, the overall timeout T, the limit of notices, the upper bound of a length.
+abbrev pub option_of : {A : Type 0} → code.Option A → Option A
+option_of None = none
+option_of (Some x) = some x
 
 -- "Deviations are numbered 1 to 15 in the order of `ProtocolDeviation`"
 abbrev pub deviation_number : ProtocolDeviation → ℕ
@@ -64,7 +57,7 @@ deviation_of protocol.UnexpectedPositiveResponse = deviation 4
 deviation_of protocol.InvalidDataIdentifier = deviation 5
 deviation_of protocol.InvalidRoutineIdentifier = deviation 6
 deviation_of protocol.InvalidBlockSequenceCounter = deviation 7
-deviation_of (protocol.InvalidResponseLength least most) = deviation8 least (maximum_of most)
+deviation_of (protocol.InvalidResponseLength least most) = deviation8 least (option_of most)
 deviation_of protocol.InvalidLengthFormat = deviation 9
 deviation_of protocol.InvalidLengthFormatIdentifier = deviation 10
 deviation_of protocol.InvalidMaxNumberOfBlockLength = deviation 11
@@ -82,9 +75,9 @@ fault_of wrong.BlockLengthOverflow = overflow
 abbrev pub first_of : List (Check rules.Fault) → Option rules.Fault
 first_of cs = judge some cs none
 
-abbrev pub verdict_of : Verdict → Option rules.Fault
-verdict_of Passed = none
-verdict_of (Failed f) = some (fault_of f)
+abbrev pub verdict_of : Result (Unit {0}) Fault → Option rules.Fault
+verdict_of (Ok u) = none
+verdict_of (Err f) = some (fault_of f)
 
 -- The bytes at a place of the lent reply bytes, and where they stand.
 abbrev pub part_of : List ℕ → Place → Part
@@ -98,7 +91,7 @@ outcome_of replies outcome.Timeout = timeout
 outcome_of replies outcome.Disconnected = disconnected
 outcome_of replies (outcome.Transport n) = transport n
 outcome_of replies (outcome.Fault f) = fault (fault_of f)
-outcome_of replies (outcome.Refused n) = refused n
+outcome_of replies (outcome.Refused r) = refused (refusal_number r)
 outcome_of replies outcome.PendingLimit = pending_limit
 
 abbrev pub step_of : List ℕ → Step → exchange.Step
@@ -114,23 +107,11 @@ answer_of replies x = record {
   reply = part_of replies x.reply;
 }
 
-abbrev pub sub_of : SubFunction → Option ℕ
-sub_of Absent = none
-sub_of (Given s) = some s
-
-abbrev pub overall_of : RequestTimeout → Option ℕ
-overall_of Never = none
-overall_of (At overall) = some overall
-
 abbrev pub timed : Timing → settings.Timing
 timed t = record { p2 = t.p2; star = t.star }
 
-abbrev pub limit_of : NoticeLimit → Option ℕ
-limit_of Unlimited = none
-limit_of (AtMost k) = some k
-
 abbrev pub asked_of : Asked → exchange.Asked
-asked_of a = record { sid = a.sid; sub = sub_of a.sub; timing = timed a.timing; limit = limit_of a.limit }
+asked_of a = record { sid = a.sid; sub = option_of a.sub; timing = timed a.timing; limit = option_of a.limit }
 
 abbrev pub form_of : Form → events.Form
 form_of Plain = events.plain

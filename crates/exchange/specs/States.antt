@@ -1,10 +1,8 @@
 -- The exchange's states as the code has them: where it starts, how silence ends it, and what T leaves of it.
-use Rattle.std.specs.Prelude.{ℕ, cond, [], leb}
+use Rattle.std.specs.Prelude.{ℕ, cond, leb}
 use Rattle.std.proofs.Math.Option.{Option, none, some}
-use Rattle.rules.specs.Calls.{suppresses}
 use Rattle.rules.specs.Exchange as exchange
 use Rattle.exchange.specs.declared.types.Answer.{Answer}
-use Rattle.exchange.specs.declared.types.Count.{Count}
 use Rattle.exchange.specs.declared.types.Outcome.TheVariants.{Suppressed, Timeout}
 use Rattle.exchange.specs.declared.types.Place.{Place}
 use Rattle.exchange.specs.declared.types.Settled.{Settled}

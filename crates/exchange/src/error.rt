@@ -2,13 +2,6 @@
 ghost use Rattle.std.specs.Prelude.{◌≡◌};
 ghost use Rattle.exchange.specs.Meaning.{deviation_number};
 
-// The upper bound of a length, if there is one.
-#[derive(Clone, Copy)]
-pub enum Maximum {
-    None,
-    At(usize),
-}
-
 #[derive(Clone, Copy)]
 pub enum ProtocolDeviation {
     InvalidServiceId,
@@ -19,7 +12,7 @@ pub enum ProtocolDeviation {
     InvalidRoutineIdentifier,
     InvalidBlockSequenceCounter,
     // minimum, maximum
-    InvalidResponseLength(usize, Maximum),
+    InvalidResponseLength(usize, Option<usize>),
     InvalidLengthFormat,
     InvalidLengthFormatIdentifier,
     InvalidMaxNumberOfBlockLength,
@@ -37,32 +30,27 @@ pub enum Fault {
     BlockLengthOverflow,
 }
 
-// What checks in order say of a reply: all pass, or the first that fails.
-#[derive(Clone, Copy)]
-pub enum Verdict {
-    Passed,
-    Failed(Fault),
-}
-
 // "Deviations are numbered 1 to 15 in the order of `ProtocolDeviation`"
-pub fn deviation_number(deviation: ProtocolDeviation) -> u8
-    ensures { result ≡ deviation_number deviation }
-{
-    match deviation {
-        ProtocolDeviation::InvalidServiceId => 1,
-        ProtocolDeviation::InvalidRequestServiceId => 2,
-        ProtocolDeviation::InvalidSubFunction => 3,
-        ProtocolDeviation::UnexpectedPositiveResponse => 4,
-        ProtocolDeviation::InvalidDataIdentifier => 5,
-        ProtocolDeviation::InvalidRoutineIdentifier => 6,
-        ProtocolDeviation::InvalidBlockSequenceCounter => 7,
-        ProtocolDeviation::InvalidResponseLength(_, _) => 8,
-        ProtocolDeviation::InvalidLengthFormat => 9,
-        ProtocolDeviation::InvalidLengthFormatIdentifier => 10,
-        ProtocolDeviation::InvalidMaxNumberOfBlockLength => 11,
-        ProtocolDeviation::InvalidAddressAndLengthFormatIdentifier => 12,
-        ProtocolDeviation::InvalidMemoryAddress => 13,
-        ProtocolDeviation::InvalidMemorySize => 14,
-        ProtocolDeviation::InvalidMemoryRecordLength => 15,
+impl From<ProtocolDeviation> for u8 {
+    ghost from_gives = { λ deviation r. r ≡ deviation_number deviation };
+
+    fn from(deviation: ProtocolDeviation) -> u8 {
+        match deviation {
+            ProtocolDeviation::InvalidServiceId => 1,
+            ProtocolDeviation::InvalidRequestServiceId => 2,
+            ProtocolDeviation::InvalidSubFunction => 3,
+            ProtocolDeviation::UnexpectedPositiveResponse => 4,
+            ProtocolDeviation::InvalidDataIdentifier => 5,
+            ProtocolDeviation::InvalidRoutineIdentifier => 6,
+            ProtocolDeviation::InvalidBlockSequenceCounter => 7,
+            ProtocolDeviation::InvalidResponseLength(_, _) => 8,
+            ProtocolDeviation::InvalidLengthFormat => 9,
+            ProtocolDeviation::InvalidLengthFormatIdentifier => 10,
+            ProtocolDeviation::InvalidMaxNumberOfBlockLength => 11,
+            ProtocolDeviation::InvalidAddressAndLengthFormatIdentifier => 12,
+            ProtocolDeviation::InvalidMemoryAddress => 13,
+            ProtocolDeviation::InvalidMemorySize => 14,
+            ProtocolDeviation::InvalidMemoryRecordLength => 15,
+        }
     }
 }

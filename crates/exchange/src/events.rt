@@ -166,8 +166,7 @@ pub fn within_limits(form: Form, events: &[u8], replies: &[u8]) -> bool
         return false;
     }
     let mut last = 0;
-    let mut i = 0;
-    while i < n {
+    for i in 0..n {
         let event = event_in(form, events, i);
         if event.time < last {
             return false;
@@ -176,7 +175,6 @@ pub fn within_limits(form: Form, events: &[u8], replies: &[u8]) -> bool
             return false;
         }
         last = event.time;
-        i += 1;
     }
     true
 }

@@ -3,18 +3,18 @@ ghost use Rattle.std.specs.Prelude.{◌≡◌};
 ghost use Rattle.rules.specs.Answers.{length_error};
 ghost use Rattle.rules.specs.Calls as calls;
 ghost use Rattle.rules.specs.Exchange as rules;
-ghost use Rattle.exchange.specs.Meaning.{asked_of, sub_of, maximum_of, fault_of, verdict_of, first_of, part_of};
+ghost use Rattle.exchange.specs.Meaning.{asked_of, option_of, fault_of, verdict_of, first_of, part_of};
 ghost use Rattle.exchange.specs.Places.{Whole, Looked};
 
-use crate::error::{Fault, Maximum, ProtocolDeviation, Verdict};
-use crate::types::{Asked, Outcome, Place, Step, SubFunction};
+use crate::error::{Fault, ProtocolDeviation};
+use crate::types::{Asked, Outcome, Place, Step};
 use wire::constants::{NEGATIVE_RESPONSE, POSITIVE_RESPONSE};
 use wire::error::NegativeResponseCode;
 use wire::{byte_at, part};
 
 // "A length error is deviation 8 (minimum, maximum) in strict, the plain length outcome in lenient."
-pub fn length_error(strict: bool, minimum: usize, maximum: Maximum) -> Fault
-    ensures { fault_of result ≡ length_error strict minimum (maximum_of maximum) }
+pub fn length_error(strict: bool, minimum: usize, maximum: Option<usize>) -> Fault
+    ensures { fault_of result ≡ length_error strict minimum (option_of maximum) }
 {
     if strict {
         Fault::ProtocolDeviation(ProtocolDeviation::InvalidResponseLength(minimum, maximum))
@@ -24,82 +24,71 @@ pub fn length_error(strict: bool, minimum: usize, maximum: Maximum) -> Fault
 }
 
 // "bit 7 of the sub-function is set"
-pub fn suppresses(sub: SubFunction) -> bool
-    ensures { result ≡ calls.suppresses (sub_of sub) }
+pub fn suppresses(sub: Option<u8>) -> bool
+    ensures { result ≡ calls.suppresses (option_of sub) }
 {
     match sub {
-        SubFunction::Absent => false,
-        SubFunction::Given(s) => s >= 128,
+        None => false,
+        Some(s) => s >= 128,
     }
 }
 
 // How many bytes stand before the data.
-pub fn head(sub: SubFunction) -> usize
-    ensures { result ≡ calls.head (sub_of sub) }
+pub fn head(sub: Option<u8>) -> usize
+    ensures { result ≡ calls.head (option_of sub) }
 {
     match sub {
-        SubFunction::Absent => 1,
-        SubFunction::Given(_) => 2,
+        None => 1,
+        Some(_) => 2,
     }
 }
 
 // "First byte 7F. Length under 3, or in strict not 3: length error (3, 3). Strict, second byte not the request's SID: deviation 2."
-fn negative_checks(strict: bool, asked: Asked, reply: &[u8]) -> Verdict
+fn negative_checks(strict: bool, asked: Asked, reply: &[u8]) -> Result<(), Fault>
     ensures { verdict_of result ≡ first_of (rules.negative_checks strict (asked_of asked) reply.now) }
 {
     if reply.len() < 3 {
-        return Verdict::Failed(length_error(strict, 3, Maximum::At(3)));
+        return Err(length_error(strict, 3, Some(3)));
     }
     if strict && reply.len() != 3 {
-        return Verdict::Failed(length_error(strict, 3, Maximum::At(3)));
+        return Err(length_error(strict, 3, Some(3)));
     }
     if strict && byte_at(reply, 1) != asked.sid {
-        return Verdict::Failed(Fault::ProtocolDeviation(
-            ProtocolDeviation::InvalidRequestServiceId,
-        ));
+        return Err(Fault::ProtocolDeviation(ProtocolDeviation::InvalidRequestServiceId));
     }
-    Verdict::Passed
+    Ok(())
 }
 
 // "With a sub-function: length 1 gives length error (2, none); strict, second byte not sub-function AND 7F: deviation 3."
-fn echoing(strict: bool, sub: SubFunction, reply: &[u8]) -> Verdict
-    ensures { verdict_of result ≡ first_of (rules.echoing strict (sub_of sub) reply.now) }
+fn echoing(strict: bool, sub: Option<u8>, reply: &[u8]) -> Result<(), Fault>
+    ensures { verdict_of result ≡ first_of (rules.echoing strict (option_of sub) reply.now) }
 {
     match sub {
-        SubFunction::Absent => Verdict::Passed,
-        SubFunction::Given(s) => {
+        None => Ok(()),
+        Some(s) => {
             if reply.len() < 2 {
-                return Verdict::Failed(length_error(strict, 2, Maximum::None));
+                return Err(length_error(strict, 2, None));
             }
             if strict && byte_at(reply, 1) != s % 128 {
-                return Verdict::Failed(Fault::ProtocolDeviation(
-                    ProtocolDeviation::InvalidSubFunction,
-                ));
+                return Err(Fault::ProtocolDeviation(ProtocolDeviation::InvalidSubFunction));
             }
-            Verdict::Passed
+            Ok(())
         }
     }
 }
 
 // "strict, first byte not SID OR 40: deviation 1." .. "Strict, suppressed, no pending: deviation 4." `hush`: suppressed, and no pending was read.
-fn positive_checks(strict: bool, asked: Asked, hush: bool, reply: &[u8]) -> Verdict
+fn positive_checks(strict: bool, asked: Asked, hush: bool, reply: &[u8]) -> Result<(), Fault>
     ensures { verdict_of result ≡ first_of (rules.positive_checks strict (asked_of asked) hush reply.now) }
 {
     if strict && byte_at(reply, 0) != asked.sid | POSITIVE_RESPONSE {
-        return Verdict::Failed(Fault::ProtocolDeviation(ProtocolDeviation::InvalidServiceId));
+        return Err(Fault::ProtocolDeviation(ProtocolDeviation::InvalidServiceId));
     }
-    let sub = asked.sub;
-    match echoing(strict, sub, reply) {
-        Verdict::Failed(fault) => Verdict::Failed(fault),
-        Verdict::Passed => {
-            if strict && hush {
-                return Verdict::Failed(Fault::ProtocolDeviation(
-                    ProtocolDeviation::UnexpectedPositiveResponse,
-                ));
-            }
-            Verdict::Passed
-        }
+    echoing(strict, asked.sub, reply)?;
+    if strict && hush {
+        return Err(Fault::ProtocolDeviation(ProtocolDeviation::UnexpectedPositiveResponse));
     }
+    Ok(())
 }
 
 // The bytes at a place that are all there: nothing is left to ask but whether there are any.
@@ -130,14 +119,14 @@ pub(crate) fn whole_look(
     let at = place.at;
     let reply = whole(replies, place);
     if reply.len() == 0 {
-        return Step::Settles(Outcome::Fault(length_error(strict, 1, Maximum::None)));
+        return Step::Settles(Outcome::Fault(length_error(strict, 1, None)));
     }
     if byte_at(reply, 0) == NEGATIVE_RESPONSE {
         match negative_checks(strict, asked, reply) {
-            Verdict::Failed(fault) => {
+            Err(fault) => {
                 return Step::Settles(Outcome::Fault(fault));
             }
-            Verdict::Passed => {
+            Ok(()) => {
                 let code = byte_at(reply, 2);
                 if code == NegativeResponseCode::RequestCorrectlyReceivedResponsePending {
                     return Step::Pending;
@@ -147,8 +136,8 @@ pub(crate) fn whole_look(
         }
     }
     match positive_checks(strict, asked, hush, reply) {
-        Verdict::Failed(fault) => Step::Settles(Outcome::Fault(fault)),
-        Verdict::Passed => {
+        Err(fault) => Step::Settles(Outcome::Fault(fault)),
+        Ok(()) => {
             let sub = asked.sub;
             let before = head(sub);
             Step::Settles(Outcome::PositiveResponse(Place {

@@ -4,7 +4,7 @@
 ghost use Rattle.std.specs.Prelude.{◌≡◌, Bool, []};
 ghost use Rattle.rules.specs.Events.{within_limits};
 ghost use Rattle.rules.specs.Exchange as rules;
-ghost use Rattle.exchange.specs.Meaning.{form_of, asked_of, limit_of, overall_of, entry_of, outcome_of};
+ghost use Rattle.exchange.specs.Meaning.{form_of, asked_of, option_of, entry_of, outcome_of};
 ghost use Rattle.exchange.specs.Counts.{in_time, one_more, counted};
 ghost use Rattle.exchange.specs.States.{start_of, passed_by, silence_of, under_of};
 ghost use Rattle.exchange.specs.Places.{WholeReply, Turns, Answers};
@@ -12,10 +12,8 @@ ghost use Rattle.exchange.specs.Guarded.{over, guarded};
 
 use events::{cut, event_count, event_in, kind_heard, kind_in, time_in, within_limits};
 use judging::{suppresses, whole_look};
-use types::{
-    Answer, Asked, Channel, Count, Event, NoticeLimit, Outcome, Place, RequestTimeout, Settled,
-    State, Step, Turn,
-};
+use types::{Answer, Asked, Channel, Count, Event, Outcome, Place, Settled, State, Step, Turn};
+use wire::refusal::Refusal;
 
 pub mod error;
 pub mod events;
@@ -56,12 +54,12 @@ fn finish(asked: Asked, outcome: Outcome, time: u64) -> u64
 }
 
 // Whether a time is up to T.
-fn in_time(overall: RequestTimeout, time: u64) -> bool
-    ensures { result ≡ in_time (overall_of overall) time }
+fn in_time(overall: Option<u32>, time: u64) -> bool
+    ensures { result ≡ in_time (option_of overall) time }
 {
     match overall {
-        RequestTimeout::Never => true,
-        RequestTimeout::At(overall) => time <= overall as u64,
+        None => true,
+        Some(overall) => time <= overall as u64,
     }
 }
 
@@ -73,8 +71,8 @@ fn one_more(n: usize) -> usize
 }
 
 // One more, at this time.
-fn counted(count: Count, overall: RequestTimeout, time: u64) -> Count
-    ensures { result ≡ counted (overall_of overall) time count }
+fn counted(count: Count, overall: Option<u32>, time: u64) -> Count
+    ensures { result ≡ counted (option_of overall) time count }
 {
     if in_time(overall, time) {
         Count {
@@ -103,18 +101,18 @@ pub fn start(asked: Asked) -> State
 }
 
 // Whether the limit allows one more notice behind so many.
-fn allows(limit: NoticeLimit, notices: usize) -> bool
-    ensures { result ≡ rules.allows (limit_of limit) notices }
+fn allows(limit: Option<u8>, notices: usize) -> bool
+    ensures { result ≡ rules.allows (option_of limit) notices }
 {
     match limit {
-        NoticeLimit::Unlimited => true,
-        NoticeLimit::AtMost(k) => notices < k as usize,
+        None => true,
+        Some(k) => notices < k as usize,
     }
 }
 
 // "Idle changes nothing" but that it was read.
-fn passed(state: State, overall: RequestTimeout, time: u64) -> State
-    ensures { result ≡ passed_by (overall_of overall) time state }
+fn passed(state: State, overall: Option<u32>, time: u64) -> State
+    ensures { result ≡ passed_by (option_of overall) time state }
 {
     let read = counted(state.read, overall, time);
     let notices = state.notices;
@@ -130,14 +128,14 @@ fn passed(state: State, overall: RequestTimeout, time: u64) -> State
 fn whole_turn(
     strict: bool,
     asked: Asked,
-    overall: RequestTimeout,
+    overall: Option<u32>,
     listens: u16,
     state: State,
     event: Event,
     replies: &[u8],
 ) -> Turn
     requires { WholeReply replies.now (entry_of event) }
-    ensures { Turns strict (asked_of asked) (overall_of overall) listens state (entry_of event) replies.now result }
+    ensures { Turns strict (asked_of asked) (option_of overall) listens state (entry_of event) replies.now result }
 {
     let kind = kind_heard(listens, event);
     let time = event.time as u64;
@@ -207,13 +205,13 @@ fn whole_turn(
 pub fn turn(
     strict: bool,
     asked: Asked,
-    overall: RequestTimeout,
+    overall: Option<u32>,
     listens: u16,
     state: State,
     event: Event,
     replies: &[u8],
 ) -> Turn
-    ensures { Turns strict (asked_of asked) (overall_of overall) listens state (entry_of event) replies.now result }
+    ensures { Turns strict (asked_of asked) (option_of overall) listens state (entry_of event) replies.now result }
 {
     let there = cut(event, replies);
     whole_turn(strict, asked, overall, listens, state, there, replies)
@@ -245,8 +243,8 @@ pub fn silence(state: State) -> Settled
 }
 
 // "If that time exceeds T, the outcome is timeout at T." "Under a timeout at T these count only events at times up to T."
-pub fn under(overall: RequestTimeout, settled: Settled) -> Answer
-    ensures { result ≡ under_of (overall_of overall) settled }
+pub fn under(overall: Option<u32>, settled: Settled) -> Answer
+    ensures { result ≡ under_of (option_of overall) settled }
 {
     let outcome = settled.outcome;
     let read = settled.read;
@@ -260,8 +258,8 @@ pub fn under(overall: RequestTimeout, settled: Settled) -> Answer
         reply,
     };
     match overall {
-        RequestTimeout::Never => whole,
-        RequestTimeout::At(overall) => {
+        None => whole,
+        Some(overall) => {
             let overall = overall as u64;
             if settled.time <= overall {
                 whole
@@ -278,17 +276,18 @@ pub fn under(overall: RequestTimeout, settled: Settled) -> Answer
     }
 }
 
+// No `for`: document 01 asks here for "a loop over the event list that yields its outcome by break, with the deadline carried".
 // The loop over the list, with the state and its deadline carried. "An event exactly at a deadline is in time." Of an idle event no more is read than that it is one.
 fn settle(
     strict: bool,
     asked: Asked,
-    overall: RequestTimeout,
+    overall: Option<u32>,
     channel: Channel,
     events: &[u8],
     replies: &[u8],
 ) -> Answer
     requires { within_limits (form_of channel.form) events.now replies.now ≡ Bool.true }
-    ensures { Answers replies.now result (over strict (asked_of asked) (overall_of overall) (form_of channel.form) channel.listens events.now replies.now) }
+    ensures { Answers replies.now result (over strict (asked_of asked) (option_of overall) (form_of channel.form) channel.listens events.now replies.now) }
 {
     let form = channel.form;
     let listens = channel.listens;
@@ -322,17 +321,17 @@ fn settle(
 pub fn exchange(
     strict: bool,
     asked: Asked,
-    overall: RequestTimeout,
+    overall: Option<u32>,
     channel: Channel,
     events: &[u8],
     replies: &[u8],
 ) -> Answer
-    ensures { Answers replies.now result (guarded strict (asked_of asked) (overall_of overall) (form_of channel.form) channel.listens events.now replies.now) }
+    ensures { Answers replies.now result (guarded strict (asked_of asked) (option_of overall) (form_of channel.form) channel.listens events.now replies.now) }
 {
     let form = channel.form;
     if !within_limits(form, events, replies) {
         return Answer {
-            outcome: Outcome::Refused(10),
+            outcome: Outcome::Refused(Refusal::Events),
             time: 0,
             events: 0,
             notices: 0,

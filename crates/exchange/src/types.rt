@@ -1,5 +1,6 @@
 // What an exchange is asked, what it reads, and what it answers: plain data by value, with places into the lent reply bytes.
 use crate::error::Fault;
+use wire::refusal::Refusal;
 
 // A part of the lent reply bytes.
 #[derive(Clone, Copy)]
@@ -12,19 +13,6 @@ impl Place {
     pub const NOWHERE: Place = Place { at: 0, len: 0 };
 }
 
-#[derive(Clone, Copy)]
-pub enum SubFunction {
-    Absent,
-    Given(u8),
-}
-
-// The overall timeout T, which may be absent.
-#[derive(Clone, Copy)]
-pub enum RequestTimeout {
-    Never,
-    At(u32),
-}
-
 // "the session record, two numbers that the host lends": P2 and P2*, in milliseconds.
 #[derive(Clone, Copy)]
 pub struct Timing {
@@ -32,20 +20,14 @@ pub struct Timing {
     pub star: u32,
 }
 
-// "a limit of K notices, 0..255, or none"
-#[derive(Clone, Copy)]
-pub enum NoticeLimit {
-    Unlimited,
-    AtMost(u8),
-}
-
 // What the exchange knows of the request that was sent, the session's timing, and the limit of notices.
 #[derive(Clone, Copy)]
 pub struct Asked {
     pub sid: u8,
-    pub sub: SubFunction,
+    pub sub: Option<u8>,
     pub timing: Timing,
-    pub limit: NoticeLimit,
+    // "a limit of K notices, 0..255, or none"
+    pub limit: Option<u8>,
 }
 
 // How events are lent: without a source address, or with one.
@@ -63,6 +45,7 @@ pub struct Channel {
 }
 
 // "time u32, kind u16, offset into reply bytes u16, length u16; kind 3 puts its number in length"; then the source address u16.
+// The kind is a number and no enum: a list may have an unknown one, which `within_limits` refuses and a log's layout still looks at.
 #[derive(Clone, Copy)]
 pub struct Event {
     pub time: u32,
@@ -76,16 +59,17 @@ pub struct Event {
 pub enum Outcome {
     PositiveResponse(Place),
     Suppressed,
+    // the code as a raw byte, by document 01: a controller may send any
     NegativeResponse(u8),
     Timeout,
     Disconnected,
     Transport(u16),
     Fault(Fault),
-    Refused(u8),
+    Refused(Refusal),
     PendingLimit,
 }
 
-// What a reply does: it asks for patience, or settles the exchange.
+// What a reply does: it asks for patience, or settles the exchange. An Option would call a notice None, and it is no absence.
 #[derive(Clone, Copy)]
 pub enum Step {
     Pending,
@@ -122,7 +106,7 @@ pub struct Settled {
     pub reply: Place,
 }
 
-// What one event in time does: the exchange reads on, or ends.
+// What one event in time does: the exchange reads on, or ends. A Result would call one of them an error, and neither is.
 #[derive(Clone, Copy)]
 pub enum Turn {
     On(State),

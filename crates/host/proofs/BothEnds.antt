@@ -28,8 +28,7 @@ use Rattle.bench.specs.Stores.{SoundStore}
 use Rattle.bench.proofs.Lasting.{lasting}
 use Rattle.bench.proofs.Promise.{promise}
 use Rattle.responder.specs.Promises.{said_by, Answered}
-use Rattle.responder.specs.Responding.{Responds}
-use Rattle.responder.specs.declared.Response.{Response}
+use Rattle.responder.specs.Responding.{Response, Responds}
 use Rattle.responder.proofs.Promises.{promises}
 use Rattle.numbers.specs.Numbers.{answer_numbers}
 use Rattle.log_call.specs.Asking.{chosen}

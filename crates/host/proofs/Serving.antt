@@ -1,7 +1,7 @@
--- From a whole call's contract to the door's: the numbers ask a call, or none.
+-- From a whole call's contract to the door's, where the numbers ask a call.
 use Prim.Native.Nat.{ℕ}
 use native.Mathlib.Omega.{arith}
-use mathlib.Core.Bool.{Bool, true, false}
+use mathlib.Core.Bool.{Bool, true}
 use mathlib.Core.Path.{◌≡◌, sym, ◌∙◌, ap, subst}
 use mathlib.Core.List.{List}
 use lib.Dec.{eqb}
@@ -22,9 +22,6 @@ use Rattle.numbers.specs.Numbers.{numbers_of, Tells}
 use Rattle.door.specs.Door.{limit_in, asks_one, address_in, size_in, data_in, asked, lent_in, limit_for, limited_to}
 use Rattle.door.proofs.Asking.{limit-said}
 use Rattle.host.specs.Served.{Served, InBytes}
-
-pub asks_none : {b : Bool} {x : Result} {before told : List ℕ} → b ≡ false → Served b x before told 1 before told
-asks_none e = record { done = rw e; request = rw e; answer = rw e }
 
 -- A call as its fields ask it.
 meant : {h : Header} {ask : Ask} (limit : ℕ) (a s : Field) (d : List ℕ) {before events replies : List ℕ} {x : Answered} {after' : List ℕ} → Asks h ask

@@ -8,9 +8,8 @@ ghost use Rattle.rules.specs.Codes.{name_number};
 ghost use Rattle.door.specs.Door.{fields};
 ghost use Rattle.host.specs.Served.{InBytes};
 
-use door::{fields, fits, limited};
+use door::{ask_for, fields};
 use exchange::types::Timing;
-use log_call::{Fields, ask_of};
 use numbers::numbers;
 use wire::part;
 
@@ -54,18 +53,14 @@ pub fn bintrochis_door_call(
         addressed,
         listens,
     );
-    let Fields::Ask(ask) = ask_of(h) else {
+    let Some(ask) = ask_for(h, limit, arguments.len()) else {
         return 1;
     };
-    if !fits(h, limit, arguments.len()) {
-        return 1;
-    }
     let at_size = address_length as usize;
     let at_data = at_size + size_length as usize;
     let address = part(arguments, 0, at_size);
     let size = part(arguments, at_size, size_length as usize);
     let data = part(arguments, at_data, arguments.len());
-    let ask = limited(ask, limit);
     let session = Timing { p2, star: p2_star };
     let x = sessions::in_session(session, ask, request, address, size, data, events, replies);
     *answer = numbers(x);

@@ -1,22 +1,20 @@
 -- The events for a log, behind each reply.
 use Prim.Native.Nat.{ℕ, ◌+◌, ◌*◌, ◌-◌, ◌/◌, ◌≤◌, ◌<◌}
 use native.Mathlib.Omega.{arith}
-use mathlib.Core.Bool.{Bool, true, false, cond, ◌&&◌, false≢true}
+use mathlib.Core.Bool.{Bool, true, false, cond}
 use mathlib.Core.List.{List, [], ◌++◌, append_assoc}
 use mathlib.Core.Option.{Option, none, some}
 use mathlib.Core.Path.{◌≡◌, refl, sym, ◌∙◌, ap, ap₂}
-use lib.Dec.{leb, ltb}
 use lib.ListN.{length, take, drop, length-append, length-drop}
 use lib.Seq.{length-take-le, take-append-le, take-take, take-add, take_at, drop_at, drop-drop, drop-append-le}
-use borrow.Author.Tests.{le-leb, leb-true}
+use borrow.Author.Tests.{le-leb}
+use borrow.Rule.Slice.PartMut.{put_mid}
 use Rattle.rules.specs.Events.{plain}
 use Rattle.rules.specs.Writing.{put_entry}
 use Rattle.wire.specs.Buffers.{Copied, with}
-use Rattle.isotp.specs.Held.{given_of}
-use Rattle.isotp.specs.declared.Gives.{Gives}
 use Rattle.importing.specs.Kept as kept
 use Rattle.importing.specs.Kept.{replied, overflowed, note_drop, note_reply, note_given, note, fits_in, entry, log_reply, log_given}
-use Rattle.imports.specs.Held.{start_of, tally_of, held_log, log_in, log_of}
+use Rattle.imports.specs.Held.{tally_of, held_log, log_in, log_of}
 use Rattle.imports.specs.declared.Tally.{Tally}
 
 -- A copy that fits: what stands up to its end, and what stands behind it.
@@ -49,6 +47,13 @@ module _ (l m a : List ℕ) (at : ℕ) {done : Bool} (room : at + length a ≤ l
 
   same : length m ≡ length l
   same = rw (copied, length-append, length-append, length-drop, there) (omega arith)
+
+-- What a copy is to a slice of the buffer is one of its own.
+pub copied-there : (l a : List ℕ) (at n : ℕ) → at + length a ≤ length l → n ≡ length a → Copied l at a true (put_mid at n l a)
+unfolding with
+copied-there l a at n room e =
+    let fits = le-leb (at + length a) (length l) room in
+    record { told = sym fits; buffer = rw (fits, e, drop-drop (length a) at l) (sym (append_assoc (take at l) a (drop (at + length a) l))) }
 
 -- An event put behind e others, and its reply behind b bytes.
 module _ (l m o a r : List ℕ) (e b : ℕ) {done done' : Bool} (whole : length l ≡ 70655) (ten : length a ≡ 10) (few : e < 512) (short : b + length r ≤ 65535)
@@ -83,16 +88,8 @@ module _ (l m o a r : List ℕ) (e b : ℕ) {done done' : Bool} (whole : length 
   pub grown : held_log ((e + 1) * 10) (b + length r) o ≡ kept.log (take (e * 10) l ++ a) (take b (drop 5120 l) ++ r)
   grown = ap₂ kept.log events replies
 
--- A reply that fits, and one that does not.
+-- A reply that fits.
 module _ (t : Tally) (ms : ℕ) (m l : List ℕ) {f : Bool} (ef : f ≡ fits_in t.events t.bytes ms (length m)) where
-  pub left_out : f ≡ false → log_in (note_reply 0 ms m (tally_of t [])) l ≡ log_reply ms m (tally_of t []) (log_of t l)
-  left_out e = rw (← ef) (go f e)
-    where
-      go : (b : Bool) → b ≡ false →
-          log_in (cond b (replied 0 ms m (tally_of t [])) (overflowed (tally_of t []))) l ≡ cond b (kept.logged ms m (tally_of t []) (log_of t l)) (log_of t l)
-      go true e = let z : ◌≡◌ {A = ℕ} 0 1 = ap (λ (b : Bool). cond b 0 1) e in absurd (omega arith)
-      go false e = refl
-
   pub put_in : (after : List ℕ) → f ≡ true →
       held_log ((t.events + 1) * 10) (t.bytes + length m) after ≡
       kept.log (take (t.events * 10) l ++ put_entry plain (entry ms t.bytes (length m))) (take t.bytes (drop 5120 l) ++ m) →
@@ -139,37 +136,3 @@ module _ (t : Tally) (out l : List ℕ) (room n time : ℕ) where
   same-given none answered g = refl
   same-given (some s) none g = refl
   same-given (some s) (some m) g = refl
-
--- A time that fits is one of 32 bits.
-pub soon : (events bytes ms size : ℕ) {f : Bool} → f ≡ fits_in events bytes ms size → f ≡ true → ms ≤ 4294967295
-soon events bytes ms size {f} ef e = go (ltb events 512) (leb ms 4294967295) (leb (bytes + size) 65535) refl (sym ef ∙ e)
-  where
-    go : (a b c : Bool) → leb ms 4294967295 ≡ b → (a && b && c) ≡ true → ms ≤ 4294967295
-    go true true c eb z = leb-true ms 4294967295 eb
-    go true false c eb z = absurd (false≢true z)
-    go false b c eb z = absurd (false≢true z)
-
--- What is given, by what the code's values are.
-module _ (t : Tally) (time : ℕ) (b : Gives) (p l after : List ℕ) where
-  pub by-given : {s : Option ℕ} {y : Option (List ℕ)} → start_of t.start ≡ s → given_of b p ≡ y →
-      log_in (note_given 0 s 0 time none y (tally_of t [])) after ≡ log_given s time y (tally_of t []) (log_of t l) →
-      log_in (note_given 0 (start_of t.start) 0 time none (given_of b p) (tally_of t [])) after ≡
-      log_given (start_of t.start) time (given_of b p) (tally_of t []) (log_of t l)
-  by-given es ey h =
-      (λ i. log_in (note_given 0 (es i) 0 time none (ey i) (tally_of t [])) after) ∙ h ∙ sym (λ i. log_given (es i) time (ey i) (tally_of t []) (log_of t l))
-
-pub none-logged : (t : Tally) (time : ℕ) (y : Option (List ℕ)) (l : List ℕ) →
-    log_in (note_given 0 none 0 time none y (tally_of t [])) l ≡ log_given none time y (tally_of t []) (log_of t l)
-unfolding log_given
-none-logged t time y l = refl
-
-pub nothing-logged : (t : Tally) (time s : ℕ) (l : List ℕ) →
-    log_in (note_given 0 (some s) 0 time none none (tally_of t [])) l ≡ log_given (some s) time none (tally_of t []) (log_of t l)
-unfolding log_given
-nothing-logged t time s l = refl
-
-pub reply-logged : (t : Tally) (time s : ℕ) (m l after : List ℕ) {ms : ℕ} → ms ≡ (time - s) / 1000 →
-    log_in (note_reply 0 ms m (tally_of t [])) after ≡ log_reply ms m (tally_of t []) (log_of t l) →
-    log_in (note_given 0 (some s) 0 time none (some m) (tally_of t [])) after ≡ log_given (some s) time (some m) (tally_of t []) (log_of t l)
-unfolding log_given
-reply-logged t time s m l after e h = rw e at h

@@ -1,17 +1,16 @@
 -- What is settled, by the code's values.
-use mathlib.Core.Bool.{Bool, true, false, cond, not, ◌||◌}
+use mathlib.Core.Bool.{◌||◌}
+use Rattle.std.specs.Prelude.{Result, Ok, Err, is_err}
 use mathlib.Core.Path.{◌≡◌, refl}
-use lib.Dec.{eqb}
 use Rattle.candump.specs.Reading.{hopeless}
-use Rattle.importing.specs.Kept.{refused_in, going, refused_at}
-use Rattle.imports.specs.Held.{kept_of, Settled}
+use Rattle.importing.specs.Kept.{refused_in}
+use Rattle.imports.specs.Held.{going_of, Settled}
+use Rattle.imports.specs.declared.Import.{Import}
+use Rattle.imports.specs.declared.RefusedLine.{RefusedLine}
 
 pub settled-held : Settled
-settled-held s asked answered out log = go (eqb s.import.«refused» 0)
+settled-held s lent out = go s.import
   where
-    go : (b : Bool) →
-        (not b || hopeless s.reader.phase) ≡
-        (refused_in (cond b (going (kept_of s.import asked answered out log)) (refused_at s.import.«refused» s.import.line))
-        || hopeless s.reader.phase)
-    go true = refl
-    go false = refl
+    go : (r : Result Import RefusedLine) → (is_err r || hopeless s.reader.phase) ≡ (refused_in (going_of r lent out) || hopeless s.reader.phase)
+    go (Ok i) = refl
+    go (Err e) = refl

@@ -1,44 +1,63 @@
 -- At most one result fits each public contract: one meaning of a stream, and one outcome with one text.
 use Prim.Native.Nat.{ℕ}
 use mathlib.Core.List.{List}
-use mathlib.Core.Path.{◌≡◌, refl, sym, ◌∙◌, ap}
-use lib.ListN.{length, drop}
+use mathlib.Core.Path.{◌≡◌, sym, ◌∙◌, ap}
+use native.Mathlib.Omega.{arith}
+use lib.ListN.{length, take, drop}
 use lib.Seq.{length-take-le}
 use Rattle.importing.specs.Kept as kept
-use Rattle.importing.specs.Kept.{Written, refused_line, refused, lines, bytes, ended}
-use Rattle.imports.specs.Held.{stream_of, written_of, Begins, Inside, Finished}
+use Rattle.importing.specs.Kept.{Written, bytes}
+use Rattle.imports.specs.Held.{held_log, stream_of, Outcome, written_of, Begins, Inside, Finished}
 use Rattle.imports.specs.declared.Stream.{Stream}
-use Rattle.imports.specs.declared.Outcome.{Outcome}
-use Rattle.imports.specs.declared.Outcome.TheVariants.{Refused, RefusedAt, Lines}
+use Rattle.imports.specs.declared.Lent.{Lent}
+use Rattle.imports.specs.declared.ImportError.TheVariants.{Line, Text}
+use Rattle.std.specs.Prelude.{Ok, Err}
+use Rattle.wire.specs.Refusing.{refusal_number}
+use Rattle.wire.specs.declared.refusal.Refusal.{Refusal}
+use Rattle.wire.proofs.Refusals.{same-refusal}
+
+never : {P : Type 0} → ◌≡◌ {A = ℕ} 0 1 → P
+never e = absurd (omega arith)
 
 -- `begin`: whatever the buffers hold.
-pub begin-unique : (r q : Stream) → Begins r → Begins q → (asked answered out log asked' answered' out' log' : List ℕ) →
-    stream_of r asked answered out log ≡ stream_of q asked' answered' out' log'
-begin-unique r q k h asked answered out log asked' answered' out' log' = k asked answered out log ∙ sym (h asked' answered' out' log')
+pub begin-unique : (r q : Stream) → Begins r → Begins q → (lent lent' : Lent) (out out' : List ℕ) → stream_of r lent out ≡ stream_of q lent' out'
+begin-unique r q k h lent lent' out out' = k lent out ∙ sym (h lent' out')
 
 -- `read_on`: from two streams of one meaning, with the buffers that they have, two of one meaning.
 pub read-on-unique : (room ask answer : ℕ) (chunk : List ℕ) {x y before before' : kept.Stream} → before ≡ before' → x ≡ bytes room ask answer before chunk
     → y ≡ bytes room ask answer before' chunk → x ≡ y
 read-on-unique room ask answer chunk e k h = k ∙ ap (λ (s : kept.Stream). bytes room ask answer s chunk) e ∙ sym h
 
--- The outcome is given back by what is written.
-abbrev outcome_from : Written → Outcome
-outcome_from (refused_line n line) = RefusedAt n line
-outcome_from (refused n) = Refused n
-outcome_from (lines text left g) = Lines (record { lines = length text; left_out = left; events = length g.events; replies = length g.replies })
-
-given_back : (r : Outcome) (out log : List ℕ) → Inside r out log → outcome_from (written_of r out log) ≡ r
-given_back (Refused n) out log h = refl
-given_back (RefusedAt n line) out log h = refl
-given_back (Lines t) out log h =
-    let text = length-take-le t.lines out h.0 in
-    let events = length-take-le t.events log h.1.0 in
-    let replies = length-take-le t.replies (drop 5120 log) h.1.1 in
-    λ i. Lines (record { lines = text i; left_out = t.left_out; events = events i; replies = replies i })
+-- Two outcomes that stand inside their buffers, and write the same, are the same.
+same-outcome : (r q : Outcome) (out log out' log' : List ℕ) → Inside r out log → Inside q out' log' → written_of r out log ≡ written_of q out' log' → r ≡ q
+same-outcome (Ok t) (Ok u) out log out' log' k h e =
+    let text : take t.lines out ≡ take u.lines out' = cc in
+    let left : t.left_out ≡ u.left_out = cc in
+    let logs : held_log t.events t.replies log ≡ held_log u.events u.replies log' = cc in
+    let events : take t.events log ≡ take u.events log' = ap (λ (g : kept.Log). g.events) logs in
+    let replies : take t.replies (drop 5120 log) ≡ take u.replies (drop 5120 log') = ap (λ (g : kept.Log). g.replies) logs in
+    let a = sym (length-take-le t.lines out k.0) ∙ ap (length {A = ℕ}) text ∙ length-take-le u.lines out' h.0 in
+    let b = sym (length-take-le t.events log k.1.0) ∙ ap (length {A = ℕ}) events ∙ length-take-le u.events log' h.1.0 in
+    let c = sym (length-take-le t.replies (drop 5120 log) k.1.1) ∙ ap (length {A = ℕ}) replies ∙ length-take-le u.replies (drop 5120 log') h.1.1 in
+    λ i. Ok (record { lines = a i; left_out = left i; events = b i; replies = c i })
+same-outcome (Ok t) (Err (Line b)) out log out' log' k h e = never (cc)
+same-outcome (Ok t) (Err (Text b)) out log out' log' k h e = never (cc)
+same-outcome (Err (Line a)) (Ok u) out log out' log' k h e = never (cc)
+same-outcome (Err (Line a)) (Err (Line b)) out log out' log' k h e =
+    let refusals : refusal_number a.refusal ≡ refusal_number b.refusal = cc in
+    let lines : a.line ≡ b.line = cc in
+    let same = same-refusal a.refusal b.refusal refusals in
+    λ i. Err (Line (record { refusal = same i; line = lines i }))
+same-outcome (Err (Line a)) (Err (Text b)) out log out' log' k h e = never (cc)
+same-outcome (Err (Text a)) (Ok u) out log out' log' k h e = never (cc)
+same-outcome (Err (Text a)) (Err (Line b)) out log out' log' k h e = never (cc)
+same-outcome (Err (Text a)) (Err (Text b)) out log out' log' k h e =
+    let refusals : refusal_number a ≡ refusal_number b = cc in
+    ap (λ (x : Refusal). Err (Text x)) (same-refusal a b refusals)
 
 -- `finish`: the same outcome, and the same bytes in the buffers.
 pub finish-unique : {x : Written} {r q : Outcome} {out log out' log' : List ℕ} → Finished x r out log → Finished x q out' log' →
     (r ≡ q) × (written_of r out log ≡ written_of q out' log')
 finish-unique {x} {r} {q} {out} {log} {out'} {log'} k h =
     let same = k.says ∙ sym h.says in
-    (sym (given_back r out log k.inside) ∙ ap outcome_from same ∙ given_back q out' log' h.inside, same)
+    (same-outcome r q out log out' log' k.inside h.inside same, same)

@@ -1,21 +1,31 @@
 -- How the code holds what is kept: numbers in structs, bytes in lent buffers.
-use Rattle.std.specs.Prelude.{ℕ, ◌*◌, ◌≤◌, Bool, cond, not, ◌||◌, List, ◌≡◌, eqb, length, take, drop}
+use Rattle.std.specs.Prelude as code
+use Rattle.std.specs.Prelude.{Some, None}
+use Rattle.std.specs.Prelude.{ℕ, ◌*◌, ◌≤◌, Bool, ◌||◌, List, ◌≡◌, length, take, drop, Result, Ok, Err, is_err}
+use Rattle.std.specs.Borrow.{Bor}
 use Rattle.std.proofs.Math.Option.{Option, none, some}
 use Rattle.isotp.specs.Held.{state_of}
 use Rattle.candump.specs.Reading.{hopeless}
 use Rattle.importing.specs.Kept as kept
 use Rattle.importing.specs.Kept.{Going, going, refused_at, Written, refused_line, refused, lines}
-use Rattle.imports.specs.declared.Start.{Start}
-use Rattle.imports.specs.declared.Start.TheVariants.{None, At}
 use Rattle.imports.specs.declared.Tally.{Tally}
 use Rattle.imports.specs.declared.Import.{Import}
 use Rattle.imports.specs.declared.Stream.{Stream}
-use Rattle.imports.specs.declared.Outcome.{Outcome}
-use Rattle.imports.specs.declared.Outcome.TheVariants.{Refused, RefusedAt, Lines}
+use Rattle.imports.specs.declared.RefusedLine.{RefusedLine}
+use Rattle.imports.specs.declared.ImportError.{ImportError}
+use Rattle.imports.specs.declared.ImportError.TheVariants.{Line, Text}
+use Rattle.imports.specs.declared.Told.{Told}
+use Rattle.imports.specs.declared.Lent.{Lent}
+use Rattle.wire.specs.Refusing.{refusal_number}
 
-abbrev pub start_of : Start → Option ℕ
+abbrev pub start_of : code.Option ℕ → Option ℕ
 start_of None = none
-start_of (At t) = some t
+start_of (Some t) = some t
+
+-- A message that is given, or none.
+abbrev pub message_of : code.Option (Bor (List ℕ)) → Option (List ℕ)
+message_of None = none
+message_of (Some m) = some m.now
 
 -- The text stands at the buffer's front.
 abbrev pub tally_of : Tally → List ℕ → kept.Tally
@@ -38,38 +48,41 @@ log_in t l = held_log (t.events * 10) t.bytes l
 abbrev pub log_of : Tally → List ℕ → kept.Log
 log_of t l = held_log (t.events * 10) t.bytes l
 
-abbrev pub kept_of : Import → List ℕ → List ℕ → List ℕ → List ℕ → kept.Kept
-kept_of i asked answered out log =
-    kept.kept i.line i.time (state_of i.asking asked) (state_of i.answering answered) (tally_of i.tally out) (log_of i.tally log)
+abbrev pub kept_of : Import → Lent → List ℕ → kept.Kept
+kept_of i lent out =
+    kept.kept i.line i.time (state_of i.asking lent.asked) (state_of i.answering lent.answered) (tally_of i.tally out) (log_of i.tally lent.log)
 
-abbrev pub going_of : Import → List ℕ → List ℕ → List ℕ → List ℕ → Going
-going_of i asked answered out log =
-    cond (eqb i.«refused» 0) (going (kept_of i asked answered out log)) (refused_at i.«refused» i.line)
+abbrev pub going_of : Result Import RefusedLine → Lent → List ℕ → Going
+going_of (Ok i) lent out = going (kept_of i lent out)
+going_of (Err r) lent out = refused_at (refusal_number r.refusal) r.line
 
-abbrev pub stream_of : Stream → List ℕ → List ℕ → List ℕ → List ℕ → kept.Stream
-stream_of s asked answered out log = kept.stream s.reader (going_of s.import asked answered out log)
+abbrev pub stream_of : Stream → Lent → List ℕ → kept.Stream
+stream_of s lent out = kept.stream s.reader (going_of s.import lent out)
 
 -- What is settled is so whatever the buffers hold: `Settled`.
 abbrev pub settled_in : Stream → Bool
-settled_in s = not (eqb s.import.«refused» 0) || hopeless s.reader.phase
+settled_in s = is_err s.import || hopeless s.reader.phase
 
 abbrev pub Settled : Type 0
-Settled = (s : Stream) (asked answered out log : List ℕ) → settled_in s ≡ kept.settled (stream_of s asked answered out log)
+Settled = (s : Stream) (lent : Lent) (out : List ℕ) → settled_in s ≡ kept.settled (stream_of s lent out)
 
 -- Nothing is under way, and nothing kept, whatever the buffers hold.
 abbrev pub Begins : Stream → Type 0
-Begins s = (asked answered out log : List ℕ) → stream_of s asked answered out log ≡ kept.start
+Begins s = (lent : Lent) (out : List ℕ) → stream_of s lent out ≡ kept.start
+
+-- What is told, or why nothing is.
+abbrev pub Outcome : Type 0
+Outcome = Result Told ImportError
 
 abbrev pub written_of : Outcome → List ℕ → List ℕ → Written
-written_of (Refused n) out log = refused n
-written_of (RefusedAt n line) out log = refused_line n line
-written_of (Lines t) out log = lines (take t.lines out) t.left_out (held_log t.events t.replies log)
+written_of (Ok t) out log = lines (take t.lines out) t.left_out (held_log t.events t.replies log)
+written_of (Err (Line r)) out log = refused_line (refusal_number r.refusal) r.line
+written_of (Err (Text r)) out log = refused (refusal_number r)
 
 -- The lines, the events and the replies stand inside their buffers.
 abbrev pub Inside : Outcome → List ℕ → List ℕ → Type 0
-Inside (Refused n) out log = Unit {0}
-Inside (RefusedAt n line) out log = Unit {0}
-Inside (Lines t) out log = (t.lines ≤ length out) × ((t.events ≤ length log) × (t.replies ≤ length (drop 5120 log)))
+Inside (Ok t) out log = (t.lines ≤ length out) × ((t.events ≤ length log) × (t.replies ≤ length (drop 5120 log)))
+Inside (Err e) out log = Unit {0}
 
 -- What is written, and that it stands inside the buffers: this determines the answer.
 pub record Finished (want : Written) (r : Outcome) (out log : List ℕ) : Type 0 where

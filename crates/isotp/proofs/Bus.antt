@@ -2,12 +2,10 @@
 use Prim.Native.Nat.{ℕ}
 use mathlib.Core.Bool.{Bool, true, false, cond, not, ◌&&◌}
 use mathlib.Core.List.{List, [], ◌∷◌, ◌++◌, map}
-use mathlib.Core.Option.{Option, none, some}
-use mathlib.Core.Path.{◌≡◌, refl, sym, ◌∙◌, ap}
+use mathlib.Core.Path.{◌≡◌, refl, ◌∙◌, ap}
 use lib.Dec.{eqb}
 use Rattle.isotp.specs.Frames.{inert}
-use Rattle.isotp.specs.Sending.{segment}
-use Rattle.isotp.specs.Joining.{State, idle, Fed, fed, passed, feed, Told, message, tells, join}
+use Rattle.isotp.specs.Joining.{State, idle, passed, feed, Told, message, tells, join}
 use Rattle.isotp.specs.Bus.{Frame, Note, noted, listen, listened, ours}
 use Rattle.isotp.specs.Laws.{Sent, Sendable, Every, segments, GivesAllBack}
 use Rattle.isotp.proofs.Feeding.{passes_over}

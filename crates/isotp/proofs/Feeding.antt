@@ -2,17 +2,16 @@
 use Prim.Native.Nat.{ℕ, suc, ◌+◌, ◌-◌, ◌*◌, ◌/◌, ◌%◌, ◌≤◌, ◌<◌, min}
 use native.Mathlib.Omega.{arith}
 use mathlib.Core.Bool.{Bool, true, false, cond, not, false≢true}
-use mathlib.Core.List.{List, [], ◌∷◌, ◌++◌}
-use mathlib.Core.Logic.{◌≢◌}
+use mathlib.Core.List.{List, ◌∷◌, ◌++◌}
 use mathlib.Core.Option.{none, some}
 use mathlib.Core.Path.{◌≡◌, refl, sym, ◌∙◌, ap}
-use lib.Dec.{leb, eqb}
+use lib.Dec.{eqb}
 use lib.ListN.{length, take, drop, length-append, length-take, length-drop}
 use lib.Seq.{take_at, take-add, take_all, length-take-le}
 use borrow.Author.Tests.{le-leb, lt-leb, eq-eqb, ne_eqb, eqb-true}
-use Rattle.isotp.specs.Frames.{kind, low, announced, is_single, is_first, inert, is_flow_control}
+use Rattle.isotp.specs.Frames.{kind, low, announced, is_single, is_first}
 use Rattle.isotp.specs.Sending.{padded, single, first, number, start, consecutive}
-use Rattle.isotp.specs.Joining.{State, idle, under, Fed, fed, passed, busy, grown, goes_on, feed}
+use Rattle.isotp.specs.Joining.{State, idle, under, fed, passed, busy, grown, goes_on, feed}
 use Rattle.isotp.specs.Laws.{PassesOver, SkipsFlowControl, DropsWrong, Numbers}
 
 no : {A : Type 0} → false ≡ true → A

@@ -1,21 +1,18 @@
 -- The frames of a correct sender give its message back; one wrong number drops it.
 use Prim.Native.Nat.{ℕ, zero, suc, ◌+◌, ◌-◌, ◌/◌, ◌≤◌, ◌<◌}
-use native.Mathlib.Nat.{add-zero}
-use native.Mathlib.Numerals.{add-one}
 use native.Mathlib.Omega.{arith}
 use mathlib.Core.Bool.{Bool, true, false, cond}
 use mathlib.Core.List.{List, [], ◌∷◌, ◌++◌}
 use mathlib.Core.Logic.{◌≢◌}
-use mathlib.Core.Option.{Option, none, some}
-use mathlib.Core.Path.{◌≡◌, refl, sym, ◌∙◌, ap}
-use lib.Dec.{leb, eqb}
-use lib.ListN.{length, take, drop, length-append, length-take, length-drop}
-use lib.Seq.{length-take-le}
-use borrow.Author.Tests.{leb-true, leb-false, le-leb, lt-leb, eq-eqb, ne_eqb}
+use mathlib.Core.Option.{Option}
+use mathlib.Core.Path.{◌≡◌, refl, ◌∙◌, ap}
+use lib.Dec.{leb}
+use lib.ListN.{length, take, drop, length-append, length-take}
+use borrow.Author.Tests.{leb-true, leb-false, eq-eqb, ne_eqb}
 use Rattle.isotp.specs.Frames.{kind, low}
 use Rattle.isotp.specs.Sending.{padded, single, first, number, start, consecutive, consecutives, segment}
-use Rattle.isotp.specs.Joining.{State, idle, under, Fed, fed, passed, feed, Told, message, dropped, tells, join}
-use Rattle.isotp.specs.Laws.{Sendable, Every, GivesBack, DropsOnce, DropsTwice, DropsLost, Fits}
+use Rattle.isotp.specs.Joining.{State, idle, Fed, fed, passed, feed, Told, message, dropped, tells, join}
+use Rattle.isotp.specs.Laws.{Every, GivesBack, DropsOnce, DropsTwice, DropsLost, Fits}
 use Rattle.isotp.proofs.Feeding.{behind, single-gives, first-begins, last-gives, next-goes-on, drops-wrong}
 
 -- One frame in front.

@@ -1,9 +1,9 @@
 -- A message is told at its last frame, and not before.
-use Prim.Native.Nat.{ℕ, zero, suc, ◌+◌, ◌-◌, ◌/◌, ◌≤◌, ◌<◌}
+use Prim.Native.Nat.{ℕ, zero, suc, ◌+◌, ◌-◌, ◌/◌, ◌<◌}
 use native.Mathlib.Omega.{arith}
 use mathlib.Core.Bool.{Bool, true, false, cond, not, ◌&&◌}
 use mathlib.Core.List.{List, [], ◌∷◌, ◌++◌, map, append_assoc}
-use mathlib.Core.Option.{Option, none, some}
+use mathlib.Core.Option.{Option, some}
 use mathlib.Core.Path.{◌≡◌, refl, sym, ◌∙◌, ap}
 use lib.Dec.{leb, eqb}
 use lib.ListN.{length, get_or, take, drop, length-append}
@@ -11,7 +11,7 @@ use lib.Seq.{take-append_seam, drop-append_seam, take_at, drop_at}
 use borrow.Author.Tests.{leb-true, leb-false, eq-eqb}
 use Rattle.isotp.specs.Frames.{inert}
 use Rattle.isotp.specs.Sending.{padded, single, first, consecutive, consecutives, segment}
-use Rattle.isotp.specs.Joining.{State, idle, Fed, fed, passed, feed, Told, message, tells, join}
+use Rattle.isotp.specs.Joining.{State, idle, Fed, fed, passed, feed, tells, join}
 use Rattle.isotp.specs.Bus.{Frame, Note, noted, listen, listened, ours}
 use Rattle.isotp.specs.Laws.{Sendable, Stamps}
 use Rattle.isotp.proofs.Feeding.{passes_over, behind, single-gives, first-begins, last-gives, next-goes-on}

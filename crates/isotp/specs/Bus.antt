@@ -1,5 +1,5 @@
 -- The frames of a bus, as a text has them, and one identifier's among them.
-use Rattle.std.specs.Prelude.{ℕ, Bool, cond, not, ◌&&◌, List, [], ◌∷◌, ◌++◌, map, eqb}
+use Rattle.std.specs.Prelude.{ℕ, cond, not, ◌&&◌, List, [], ◌∷◌, ◌++◌, map, eqb}
 use Rattle.isotp.specs.Frames.{inert}
 use Rattle.isotp.specs.Joining.{State, Fed, passed, feed, Told, tells}
 

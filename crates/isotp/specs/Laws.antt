@@ -1,9 +1,9 @@
 -- What holds of sending and joining.
-use Rattle.std.specs.Prelude.{ℕ, suc, ◌+◌, ◌-◌, ◌/◌, ◌≤◌, ◌<◌, min, true, List, [], ◌∷◌, ◌++◌, map, ◌≢◌, ◌≡◌, length}
+use Rattle.std.specs.Prelude.{ℕ, suc, ◌+◌, ◌/◌, ◌≤◌, ◌<◌, true, List, [], ◌∷◌, ◌++◌, map, ◌≢◌, ◌≡◌, length}
 use Rattle.std.proofs.Math.Option.{none}
 use Rattle.isotp.specs.Frames.{kind, low, inert, is_flow_control}
-use Rattle.isotp.specs.Sending.{padded, first, number, start, consecutive, consecutives, segment}
-use Rattle.isotp.specs.Joining.{State, idle, under, Fed, fed, passed, feed, Told, message, dropped, join}
+use Rattle.isotp.specs.Sending.{padded, first, number, consecutive, consecutives, segment}
+use Rattle.isotp.specs.Joining.{State, idle, under, fed, passed, feed, message, dropped, join}
 use Rattle.isotp.specs.Bus.{Frame, Note, noted, listened, ours}
 
 -- A message and the padding of its frames.

@@ -1,15 +1,14 @@
 // `isotp` joins the frames of one identifier into messages, by ISO 15765-2.
 #![tactic(auto)]
 
-ghost use Rattle.std.specs.Prelude.{◌≡◌, ◌+◌, ◌≤◌, ◌<◌, min, length, false};
+ghost use Rattle.std.specs.Prelude.{◌≡◌};
 ghost use Rattle.isotp.specs.Joining.{idle, singles, firsts, goes_on, feed};
-ghost use Rattle.isotp.specs.declared.Gives.TheVariants.{Nothing};
-ghost use Rattle.isotp.specs.Held.{joiner_of, settled, state_in, state_of, Sound, Does};
+ghost use Rattle.isotp.specs.Held.{joiner_of, settled, state_in, state_of, Changes, Does};
 
 // "12-bit lengths": no message is longer.
 pub const LONGEST: usize = 4095;
 
-// A message under way: the bytes still due (0: there is no message), the next frame's number, and how many bytes are there.
+// A message under way: the bytes still due, the next frame's number, and how many bytes are there.
 #[derive(Clone, Copy)]
 pub struct Joiner {
     pub due: usize,
@@ -17,182 +16,126 @@ pub struct Joiner {
     pub have: usize,
 }
 
-// What a frame gives: nothing, or a message of so many bytes.
-#[derive(Clone, Copy)]
-pub enum Gives {
-    Nothing,
-    Message(usize),
-}
-
-// What a frame does: the message under way from now on, whether the one before is dropped, and what is given.
+// What a frame does: the message under way from now on, if any, whether the one before is dropped, and the length of the message given.
 #[derive(Clone, Copy)]
 pub struct Heard {
-    pub joiner: Joiner,
+    pub joiner: Option<Joiner>,
     pub drops: bool,
-    pub gives: Gives,
-}
-
-fn wide(b: u8) -> usize
-    ensures { (result ≡ b) × (result < 256) }
-{
-    b as usize
-}
-
-// How many of the bytes due a consecutive frame brings.
-fn portion(due: usize) -> usize
-    ensures { (result ≡ min 7 due) × (result ≤ 7) }
-{
-    if due < 7 { due } else { 7 }
+    pub gives: Option<usize>,
 }
 
 // No message is under way.
-pub fn idle() -> Joiner
+pub fn idle() -> Option<Joiner>
     ensures { result ≡ joiner_of idle }
 {
-    Joiner {
-        due: 0,
-        next: 0,
-        have: 0,
-    }
+    None
 }
 
 // Numbers that no message has mean that none is under way.
-fn settled(joiner: Joiner) -> Joiner
+fn settled(joiner: Option<Joiner>) -> Option<Joiner>
     ensures { result ≡ settled joiner }
 {
-    let due = joiner.due;
-    let have = joiner.have;
-    if due < 1 {
-        return idle();
+    let message = joiner?;
+    if message.due < 1
+        || message.due > LONGEST
+        || message.have > LONGEST - message.due
+        || message.next > 15
+    {
+        return None;
     }
-    if due > LONGEST {
-        return idle();
-    }
-    if have > LONGEST - due {
-        return idle();
-    }
-    if joiner.next > 15 {
-        return idle();
-    }
-    joiner
+    Some(message)
 }
 
-// The frame changes nothing.
-fn passed(joiner: Joiner) -> Heard
-    ensures { result ≡ record { joiner = joiner; drops = false; gives = Nothing } }
+fn single(joiner: Option<Joiner>, frame: &[u8], buffer: &mut [u8; LONGEST]) -> Option<Heard>
+    ensures { Changes (state_in joiner buffer.old) (singles (state_in joiner buffer.old) frame.now) buffer.old result buffer.new }
 {
-    Heard {
-        joiner: joiner,
-        drops: false,
-        gives: Gives::Nothing,
+    let size = (wire::byte_at(frame, 0) % 16) as usize;
+    if size < 1 || size > 7 || frame.len() < size + 1 {
+        return None;
     }
+    buffer[..size].copy_from_slice(&frame[1..size + 1]);
+    Some(Heard {
+        joiner: None,
+        drops: joiner.is_some(),
+        gives: Some(size),
+    })
 }
 
-fn single(joiner: Joiner, frame: &[u8], buffer: &mut [u8]) -> Heard
-    requires { Sound joiner buffer.old }
-    ensures { Does (singles (state_in joiner buffer.old) frame.now) buffer.old result buffer.new }
+fn first(joiner: Option<Joiner>, frame: &[u8], buffer: &mut [u8; LONGEST]) -> Option<Heard>
+    ensures { Changes (state_in joiner buffer.old) (firsts (state_in joiner buffer.old) frame.now) buffer.old result buffer.new }
 {
-    let size = wide(wire::byte_at(frame, 0) % 16);
-    if size < 1 {
-        return passed(joiner);
+    let size = (wire::byte_at(frame, 0) % 16) as usize * 256 + wire::byte_at(frame, 1) as usize;
+    if size < 8 || frame.len() < 8 {
+        return None;
     }
-    if size > 7 {
-        return passed(joiner);
-    }
-    if frame.len() < size + 1 {
-        return passed(joiner);
-    }
-    wire::copy_into(buffer, 0, wire::part(frame, 1, size));
-    Heard {
-        joiner: idle(),
-        drops: joiner.due != 0,
-        gives: Gives::Message(size),
-    }
-}
-
-fn first(joiner: Joiner, frame: &[u8], buffer: &mut [u8]) -> Heard
-    requires { Sound joiner buffer.old }
-    ensures { Does (firsts (state_in joiner buffer.old) frame.now) buffer.old result buffer.new }
-{
-    let size = wide(wire::byte_at(frame, 0) % 16) * 256 + wide(wire::byte_at(frame, 1));
-    if size < 8 {
-        return passed(joiner);
-    }
-    if frame.len() < 8 {
-        return passed(joiner);
-    }
-    wire::copy_into(buffer, 0, wire::part(frame, 2, 6));
-    Heard {
-        joiner: Joiner {
+    buffer[..6].copy_from_slice(&frame[2..8]);
+    Some(Heard {
+        joiner: Some(Joiner {
             due: size - 6,
             next: 1,
             have: 6,
-        },
-        drops: joiner.due != 0,
-        gives: Gives::Nothing,
-    }
+        }),
+        drops: joiner.is_some(),
+        gives: None,
+    })
 }
 
-fn next(joiner: Joiner, frame: &[u8], buffer: &mut [u8]) -> Heard
-    requires { Sound joiner buffer.old }
-    ensures { Does (goes_on (state_in joiner buffer.old) frame.now) buffer.old result buffer.new }
+fn next(joiner: Option<Joiner>, frame: &[u8], buffer: &mut [u8; LONGEST]) -> Option<Heard>
+    requires { settled joiner ≡ joiner }
+    ensures { Changes (state_in joiner buffer.old) (goes_on (state_in joiner buffer.old) frame.now) buffer.old result buffer.new }
 {
-    let due = joiner.due;
-    let have = joiner.have;
-    if due == 0 {
-        return passed(joiner);
-    }
-    if wire::byte_at(frame, 0) % 16 != joiner.next {
-        return Heard {
-            joiner: idle(),
+    let Joiner { due, next, have } = joiner?;
+    if wire::byte_at(frame, 0) % 16 != next {
+        return Some(Heard {
+            joiner: None,
             drops: true,
-            gives: Gives::Nothing,
-        };
+            gives: None,
+        });
     }
-    let n = portion(due);
+    let n = due.min(7);
     if frame.len() < n + 1 {
-        return passed(joiner);
+        return None;
     }
-    wire::copy_into(buffer, have, wire::part(frame, 1, n));
-    if due <= 7 {
-        return Heard {
-            joiner: idle(),
-            drops: false,
-            gives: Gives::Message(have + n),
-        };
-    }
-    Heard {
-        joiner: Joiner {
+    buffer[have..have + n].copy_from_slice(&frame[1..n + 1]);
+    let (joiner, gives) = if due <= 7 {
+        (None, Some(have + n))
+    } else {
+        let more = Joiner {
             due: due - 7,
-            next: (joiner.next + 1) % 16,
+            next: (next + 1) % 16,
             have: have + n,
-        },
+        };
+        (Some(more), None)
+    };
+    Some(Heard {
+        joiner,
         drops: false,
-        gives: Gives::Nothing,
-    }
+        gives,
+    })
 }
 
-// By the first byte's high half.
-fn by_kind(joiner: Joiner, frame: &[u8], buffer: &mut [u8]) -> Heard
-    requires { Sound joiner buffer.old }
-    ensures { Does (feed (state_in joiner buffer.old) frame.now) buffer.old result buffer.new }
+// By the first byte's high half: 0 is a single frame, 1 a first one, 2 a consecutive one. None where the frame changes nothing.
+#[tactic(auto, unfolding(crate::specs::Joining::feed))]
+fn changed(joiner: Option<Joiner>, frame: &[u8], buffer: &mut [u8; LONGEST]) -> Option<Heard>
+    requires { settled joiner ≡ joiner }
+    ensures { Changes (state_in joiner buffer.old) (feed (state_in joiner buffer.old) frame.now) buffer.old result buffer.new }
 {
-    let kind = wire::byte_at(frame, 0) / 16;
-    if kind == 0 {
-        return single(joiner, frame, buffer);
+    match wire::byte_at(frame, 0) / 16 {
+        0 => single(joiner, frame, buffer),
+        1 => first(joiner, frame, buffer),
+        2 => next(joiner, frame, buffer),
+        _ => None,
     }
-    if kind == 1 {
-        return first(joiner, frame, buffer);
-    }
-    if kind == 2 {
-        return next(joiner, frame, buffer);
-    }
-    passed(joiner)
 }
 
 // One frame more. The bytes of the message under way stand at the front of `buffer`, and so does the message given.
-pub fn feed(joiner: Joiner, frame: &[u8], buffer: &mut [u8; 4095]) -> Heard
+pub fn feed(joiner: Option<Joiner>, frame: &[u8], buffer: &mut [u8; LONGEST]) -> Heard
     ensures { Does (feed (state_of joiner buffer.old) frame.now) buffer.old result buffer.new }
 {
-    by_kind(settled(joiner), frame, buffer)
+    let joiner = settled(joiner);
+    changed(joiner, frame, buffer).unwrap_or(Heard {
+        joiner,
+        drops: false,
+        gives: None,
+    })
 }

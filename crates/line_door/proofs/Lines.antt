@@ -1,4 +1,7 @@
 -- From a written line to the door's number.
+use Rattle.std.specs.Prelude as code
+use Rattle.std.specs.Prelude.{Some, None}
+use Rattle.std.specs.Option.{unwrap_or}
 use Prim.Native.Nat.{ℕ, ◌≤◌, ◌<◌}
 use native.Mathlib.Omega.{arith}
 use mathlib.Core.Bool.{Bool, true, false, cond}
@@ -11,22 +14,16 @@ use borrow.Author.Tests.{le-leb}
 use Rattle.rules.specs.Logs.{line_of}
 use Rattle.log_line.proofs.Longest.{line-fits}
 use Rattle.text.specs.Written.{Wrote}
-use Rattle.text.specs.declared.Written.{Written}
-use Rattle.text.specs.declared.Written.TheVariants.{Line, NoRoom}
 use Rattle.line_door.specs.Lined.{Lined}
 
--- A writer's answer as a number.
-abbrev pub size_in : Written → ℕ
-size_in (Line n) = n
-size_in NoRoom = 0
-
-size-told : (b : Bool) (n : ℕ) → size_in (cond b (Line n) NoRoom) ≡ cond b n 0
+size-told : (b : Bool) (n : ℕ) → unwrap_or (cond b (Some n) None) 0 ≡ cond b n 0
 size-told true n = refl
 size-told false n = refl
 
-pub lined : {log before after : List ℕ} {w v : Written} → w ≡ v → Wrote (line_of log) before w after → Lined log before (size_in v) after
-lined {log} {before} e h = record {
-  size = ap size_in (sym e ∙ h.answer) ∙ size-told (leb (length (line_of log)) (length before)) (length (line_of log));
+-- What the writer answers, as a number.
+pub lined : {log before after : List ℕ} {w : code.Option ℕ} → Wrote (line_of log) before w after → Lined log before (unwrap_or w 0) after
+lined {log} {before} h = record {
+  size = ap (λ (w : code.Option ℕ). unwrap_or w 0) h.answer ∙ size-told (leb (length (line_of log)) (length before)) (length (line_of log));
   line = h.line;
 }
 

@@ -3,14 +3,9 @@
 
 ghost use Rattle.line_door.specs.Lined.{Lined};
 
-use text::Written;
-
 // The line that `udslog` prints of a log, at the front of `line`: how long it is, its newline included. 0 where there is no room, and nothing is touched.
 pub fn bintrochis_door_line(log: &[u8], line: &mut [u8]) -> usize
     ensures { Lined log.now line.old result line.new }
 {
-    match log_line::line_of(log, line) {
-        Written::Line(n) => n,
-        Written::NoRoom => 0,
-    }
+    log_line::line_of(log, line).unwrap_or(0)
 }

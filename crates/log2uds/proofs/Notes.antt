@@ -6,8 +6,8 @@ use mathlib.Core.Bool.{Bool, true, false, cond, not}
 use mathlib.Core.List.{List, [], ◌∷◌, ◌++◌, append_assoc, append-nil}
 use mathlib.Core.Path.{◌≡◌, refl, sym, ◌∙◌, ap}
 use lib.Dec.{eqb, ltb}
-use lib.ListN.{length, get_or, take, drop, set, length-take, drop_of_length-le, get_or-eq_default}
-use lib.Seq.{drop-cons, get_or-take, take-suc-set}
+use lib.ListN.{length, get_or, take, drop, drop_of_length-le}
+use lib.Seq.{drop-cons}
 use borrow.Author.Tests.{ne_eqb}
 use Rattle.rules.specs.Bytes.{every}
 use Rattle.rules.proofs.Judging.{both}
@@ -91,26 +91,6 @@ noted-lines d (dropped n ∷ is) = go (ltb d 4096) (noted-lines (next d) is)
         noted (cond b (line_of (dropped n)) [] ++ lines_from (next d) is) ≡ cond b (line_of (dropped n)) [] ++ lines_from (next d) (others is)
     go true e = item-passed true (ascii "dropped") [] (lines_from (next d) is) n refl refl ∙ ap (λ (x : List ℕ). line_of (dropped n) ++ x) e
     go false e = e
-
--- The third letter of a line, by its first three bytes.
-module _ (lines line : List ℕ) (at : ℕ) (e : line ≡ take 3 (drop at lines)) where
-  pub no_third : length line < 3 → false ≡ is_reply (drop at lines)
-  no_third h =
-      let short : length (drop at lines) ≤ 2 = omega (arith, ap (length {A = ℕ}) e, length-take 3 (drop at lines)) in
-      rw (get_or-eq_default (drop at lines) 0 short)
-
-  pub third : eqb (get_or line 2 0) 112 ≡ is_reply (drop at lines)
-  third = rw (e, get_or-take 3 (drop at lines) 2 0 (omega arith))
-
--- A byte of a line, kept or not.
-pub not-kept : (out : List ℕ) (at c : ℕ) (keep : Bool) → not keep ≡ true → take at out ≡ take at out ++ cond keep (c ∷ []) []
-not-kept out at c true e = let z : ◌≡◌ {A = ℕ} 0 1 = ap (λ (b : Bool). cond b 1 0) e in absurd (omega arith)
-not-kept out at c false e = sym (append-nil (take at out))
-
-pub is-kept : (out : List ℕ) (at c : ℕ) (keep : Bool) → at < length out → not keep ≡ false →
-    take (at + 1) (set out at c) ≡ take at out ++ cond keep (c ∷ []) []
-is-kept out at c true h e = rw add-one (take-suc-set out at c h)
-is-kept out at c false h e = let z : ◌≡◌ {A = ℕ} 0 1 = ap (λ (b : Bool). cond b 0 1) e in absurd (omega arith)
 
 -- How far lines were copied: n bytes stand in the buffer, and those from index i on are to come.
 pub record Copied (lines out : List ℕ) (keep : Bool) (n i : ℕ) : Type 0 where

@@ -1,11 +1,9 @@
 -- From what was read to what is written.
-use Prim.Native.Nat.{ℕ, ◌-◌, ◌<◌}
+use Prim.Native.Nat.{ℕ, ◌-◌}
 use native.Mathlib.Omega.{arith}
-use mathlib.Core.Bool.{Bool, true, false, cond, ◌||◌, false≢true}
+use mathlib.Core.Bool.{Bool, true, false}
 use mathlib.Core.List.{List, [], ◌++◌}
 use mathlib.Core.Path.{◌≡◌, refl, sym, ◌∙◌, ap, ap₂, subst}
-use lib.Dec.{eqb}
-use borrow.Author.Tests.{eqb-false}
 use lib.ListN.{take}
 use Rattle.rules.specs.Events.{plain, Entry, entries}
 use Rattle.rules.specs.Writing.{put_entries}
@@ -19,13 +17,20 @@ use Rattle.importing.proofs.Passes.{no_source}
 use Rattle.importing.proofs.Room.{suffices}
 use Rattle.importing.proofs.Settles.{bytes-behind, settles}
 use Rattle.captured.specs.Capture.{capture}
-use Rattle.imports.specs.Held.{written_of, Finished}
-use Rattle.imports.specs.declared.Outcome.{Outcome}
-use Rattle.imports.specs.declared.Outcome.TheVariants.{Refused, RefusedAt, Lines}
+use Rattle.imports.specs.Held.{Outcome, written_of, Finished}
+use Rattle.imports.specs.declared.ImportError.TheVariants.{Line, Text}
+use Rattle.std.specs.Prelude.{Ok, Err}
 use Rattle.log2uds.specs.Streams.{shown, left_in, reported, output, errors, log_shown, log_said}
 use Rattle.log2uds.proofs.Notes.{noted-lines}
 use Rattle.log2uds.specs.Runs as Runs
-use Rattle.log2uds.specs.Runs.{Came, Ends, log_output, log_errors}
+use Rattle.log2uds.specs.Runs.{Came, Turned, Ends, log_output, log_errors}
+use Rattle.std.specs.Prelude as code
+use Rattle.std.specs.Io.KnownBytes.{Consumes}
+use Rattle.std.proofs.KnownBytes.{Consumes-trans}
+
+pub nothing_read : (room ask answer : ℕ) (s : Stream) → s ≡ bytes room ask answer s []
+unfolding bytes
+nothing_read room ask answer s = refl
 
 -- What came is what was taken from where it was read.
 pub none_came : (room ask answer : ℕ) (C : List ℕ → Type 0) {s : Stream} → s ≡ start → C [] → (p : Came room ask answer start s) × C p.text
@@ -42,6 +47,13 @@ more-came room ask answer C {a} p q h = (
   h,
 )
 
+-- One read more.
+pub turn-came : (room n ask answer : ℕ) (x y z : code.Option (List ℕ)) {a b c : Stream} {t : Bool} → n ≡ room → (p : Came room ask answer a b) × Consumes x y p.text →
+    (q : Turned n ask answer b c t) × Consumes y z q.came.text → (r : Came room ask answer a c) × Consumes x z r.text
+turn-came room n ask answer x y z {b = b} {c = c} e p q =
+    let more : (m : Came room ask answer b c) × Consumes y z m.text = subst (λ (k : ℕ). (m : Came k ask answer b c) × Consumes y z m.text) e (q.0.came, q.1) in
+    more-came room ask answer (Consumes x z) p.0 more.0 (Consumes-trans _ _ _ _ _ p.1 more.1)
+
 -- The text was read to its end, or nothing behind what was read of it changes anything.
 pub all-came : (room ask answer : ℕ) (t : Bool) (C : List ℕ → Type 0) {s : Stream} {r : Outcome} {out log : List ℕ} (p : Came room ask answer start s) →
     C p.text → (t ≡ false → settled s ≡ true) → Finished (ended room ask answer s) r out log → (e : Ends room ask answer t r out log) × C e.text
@@ -55,28 +67,16 @@ all-came room ask answer t C {r = r} {out = out} {log = log} p h stops f = (
   h,
 )
 
--- The turns grow fewer, and end with the text or where it is settled.
-pub fewer : (came done : Bool) (turns : ℕ) {after : ℕ} → 0 < turns → after ≡ cond (came || done) 0 (turns - 1) → after < turns
-fewer true done turns h e = omega (arith, e)
-fewer false true turns h e = omega (arith, e)
-fewer false false turns h e = omega (arith, e)
-
-pub stops : (came done : Bool) (turns : ℕ) {after : ℕ} {t : Bool} → 0 < turns → after ≡ cond (came || done) 0 (turns - 1) →
-    t ≡ cond came true (cond done false (eqb turns 1)) → after ≡ 0 → t ≡ false → done ≡ true
-stops true done turns h ea et z e = absurd (false≢true (sym e ∙ et))
-stops false true turns h ea et z e = refl
-stops false false turns h ea et z e = let one : turns ≡ 1 = omega (arith, ea, z) in absurd (eqb-false turns 1 (sym et ∙ e) one)
-
 -- What is shown does not depend on the other buffer.
 same-shown : (r : Outcome) (out log : List ℕ) → shown (written_of r out []) ≡ shown (written_of r out log)
-same-shown (Refused n) out log = refl
-same-shown (RefusedAt n line) out log = refl
-same-shown (Lines t) out log = refl
+same-shown (Ok t) out log = refl
+same-shown (Err (Line r)) out log = refl
+same-shown (Err (Text r)) out log = refl
 
 same_left : (r : Outcome) (out log : List ℕ) → left_in (written_of r [] []) ≡ left_in (written_of r out log)
-same_left (Refused n) out log = refl
-same_left (RefusedAt n line) out log = refl
-same_left (Lines t) out log = refl
+same_left (Ok t) out log = refl
+same_left (Err (Line r)) out log = refl
+same_left (Err (Text r)) out log = refl
 
 -- `log2uds REQUEST REPLY`
 pub lines-written : (ask answer : ℕ) (t : Bool) (C : List ℕ → Type 0) {r : Outcome} {room n m left : ℕ} {before out log said : List ℕ} → room ≡ 272410 →

@@ -5,8 +5,7 @@ use Rattle.importing.specs.Import.{Imported, imported}
 use Rattle.importing.specs.Kept.{Stream, bytes}
 use Rattle.importing.specs.Promises.{written, in_full, lines_from, given_up_from, entries_from, replies_of}
 use Rattle.captured.specs.Capture.{capture}
-use Rattle.imports.specs.Held.{Finished}
-use Rattle.imports.specs.declared.Outcome.{Outcome}
+use Rattle.imports.specs.Held.{Outcome, Finished}
 use Rattle.log2uds.specs.Streams.{shown, left_in, reported, others, output, errors}
 
 -- So many bytes more were read.

@@ -3,47 +3,58 @@
 // it with an error.
 #![tactic(auto)]
 
-ghost use Rattle.std.specs.Prelude.{◌+◌, ◌-◌, ◌≤◌, ◌<◌, cond, true, false, not, ◌||◌, ◌∷◌, ◌++◌, [], ◌≡◌, IfOk, eqb, length, take, drop};
+ghost use Rattle.std.specs.Prelude.{◌+◌, ◌≤◌, true, false, ◌++◌, [], ◌≡◌, Err, IfOk, is_none, length, take};
+ghost use Rattle.std.specs.Option.{unwrap_or};
 ghost use Rattle.std.specs.Io.KnownBytes.{Consumes};
-ghost use Rattle.imports.specs.Held.{stream_of, written_of};
+ghost use Rattle.importing.specs.Kept.{start};
+ghost use Rattle.imports.specs.Held.{stream_of, settled_in, written_of};
 ghost use Rattle.log2uds.specs.Streams.{is_reply, noted, shown, left_in, reported, log_shown, log_said};
-ghost use Rattle.log2uds.specs.Runs.{Turned, Ends, Lines, Log};
+ghost use Rattle.log2uds.specs.Runs.{Came, Turned, Ends, Lines, Log};
 
-use candump::Named;
-use captured::{Captured, capture, is_call};
-use imports::{LOG_ROOM, Outcome, REPLIES_AT, ROOM, Stream};
+use captured::{NoCapture, capture, is_call};
+use imports::{Identifiers, ImportError, Lent, REPLIES_AT, ROOM, Stream, Told};
 use std::fs::File;
 use std::io;
 use std::io::{Read, Write};
 use streams::{arg, arg_count, open, read_full, write_full};
 use text::{put_counted, put_item};
-use wire::part;
+use wire::refusal::Refusal;
+use wire::{byte_at, part};
 
 // With CALL, standard error has at most the lines of the text and how many `dropped` lines are left out.
 const SAID_ROOM: usize = 272470;
 
+// A refusal as a line, with the number of the text's line that it refuses, if any: how many bytes are written.
+fn put_error(error: ImportError, out: &mut [u8]) -> usize
+    requires { 60 ≤ length out.old }
+    ensures { take result out.new ≡ shown (written_of (Err error) [] []) }
+{
+    match error {
+        ImportError::Text(refusal) => put_item(out, 0, b"refused", u8::from(refusal) as u64, b""),
+        ImportError::Line(refused) => {
+            let n = put_counted(out, 0, b"refused", u8::from(refused.refusal) as u64);
+            put_item(out, n, b"", refused.line, b"")
+        }
+    }
+}
+
 // The lines that stand at the front of the buffer, or the refusal, which is put there: how many bytes are written.
-fn put_outcome(outcome: Outcome, out: &mut [u8]) -> usize
+fn put_outcome(outcome: Result<Told, ImportError>, out: &mut [u8]) -> usize
     requires { 60 ≤ length out.old }
     ensures { take result out.new ≡ shown (written_of outcome out.old []) }
 {
     match outcome {
-        Outcome::Refused(number) => put_item(out, 0, b"refused", number as u64, b""),
-        Outcome::RefusedAt(number, line) => {
-            let n = put_counted(out, 0, b"refused", number as u64);
-            put_item(out, n, b"", line, b"")
-        }
-        Outcome::Lines(told) => told.lines,
+        Ok(told) => told.lines,
+        Err(error) => put_error(error, out),
     }
 }
 
-fn left_out(outcome: Outcome) -> u64
+fn left_out(outcome: Result<Told, ImportError>) -> u64
     ensures { result ≡ left_in (written_of outcome [] []) }
 {
     match outcome {
-        Outcome::Refused(_) => 0,
-        Outcome::RefusedAt(_, _) => 0,
-        Outcome::Lines(told) => told.left_out,
+        Ok(told) => told.left_out,
+        Err(_) => 0,
     }
 }
 
@@ -58,52 +69,28 @@ fn put_left_out(left: u64, out: &mut [u8], at: usize) -> usize
     put_item(out, at, b"log2uds: 'dropped' lines left out:", left, b"")
 }
 
-// Whether the line from an index on is a reply's.
-fn is_reply(lines: &[u8], at: usize) -> bool
-    ensures { result ≡ is_reply (drop at lines.now) }
+// Whether the line that these bytes begin with is a reply's.
+fn is_reply(line: &[u8]) -> bool
+    ensures { result ≡ is_reply line.now }
 {
-    let line = part(lines, at, 3);
-    if line.len() < 3 {
-        return false;
-    }
-    line[2] == b'p'
+    byte_at(line, 2) == b'p'
 }
 
-// One byte of a line, where the line is kept.
-fn put_kept(keep: bool, c: u8, out: &mut [u8], at: usize) -> usize
-    requires { at < length out.old }
-    ensures { (take result out.new ≡ take at out.old ++ cond keep (c ∷ []) []) × (result ≤ at + 1) }
-{
-    if !keep {
-        return at;
-    }
-    out[at] = c;
-    at + 1
-}
-
-// Whether the line of the next byte is kept: behind an LF another begins.
-fn keeps(keep: bool, c: u8, lines: &[u8], next: usize) -> bool
-    ensures { result ≡ cond (eqb c 10) (not (is_reply (drop next lines.now))) keep }
-{
-    if c == b'\n' {
-        return !is_reply(lines, next);
-    }
-    keep
-}
-
-// The lines but those of replies, at the buffer's front.
+// The lines but those of replies, at the buffer's front. Behind an LF another line begins.
 fn put_notes(lines: &[u8], out: &mut [u8]) -> usize
     requires { length lines.now ≤ length out.old }
     ensures { (take result out.new ≡ noted lines.now) × (result ≤ length lines.now) }
 {
-    let mut keep = !is_reply(lines, 0);
+    let mut keep = !is_reply(lines);
     let mut n = 0;
-    let mut i = 0;
-    while i < lines.len() {
-        let c = lines[i];
-        n = put_kept(keep, c, out, n);
-        i += 1;
-        keep = keeps(keep, c, lines, i);
+    for (i, &c) in lines.iter().enumerate() {
+        if keep {
+            out[n] = c;
+            n += 1;
+        }
+        if c == b'\n' {
+            keep = !is_reply(&lines[i + 1..]);
+        }
     }
     n
 }
@@ -126,7 +113,7 @@ struct Streams {
 
 // The log of the call with the events of the text, for standard output, and the lines but the replies, for standard error; a refusal, for the latter.
 fn put_capture(
-    outcome: Outcome,
+    outcome: Result<Told, ImportError>,
     call: &[u8],
     out: &[u8],
     log: &[u8],
@@ -137,170 +124,138 @@ fn put_capture(
     ensures { (take result.out whole.new ≡ log_shown call.now (written_of outcome out.now log.now)) ×
         (take result.said said.new ≡ log_said call.now (written_of outcome out.now log.now)) }
 {
-    match outcome {
-        Outcome::Refused(_) => Streams {
-            out: 0,
-            said: put_outcome(outcome, said),
-        },
-        Outcome::RefusedAt(_, _) => Streams {
-            out: 0,
-            said: put_outcome(outcome, said),
-        },
-        Outcome::Lines(told) => {
-            let lines = part(out, 0, told.lines);
-            let events = part(log, 0, told.events);
-            let replies = part(log, REPLIES_AT, told.replies);
-            match capture(call, events, replies, whole) {
-                Captured::Log(n) => Streams {
-                    out: n,
-                    said: put_said(lines, told.left_out, said),
-                },
-                Captured::TooLong => Streams {
-                    out: 0,
-                    said: put_item(said, 0, b"refused", 17, b""),
-                },
-                Captured::NoCall => Streams { out: 0, said: 0 },
-            }
+    let told = match outcome {
+        Ok(told) => told,
+        Err(error) => {
+            return Streams {
+                out: 0,
+                said: put_error(error, said),
+            };
         }
+    };
+    let lines = part(out, 0, told.lines);
+    let events = part(log, 0, told.events);
+    let replies = part(log, REPLIES_AT, told.replies);
+    match capture(call, events, replies, whole) {
+        Ok(n) => Streams {
+            out: n,
+            said: put_said(lines, told.left_out, said),
+        },
+        Err(NoCapture::TooLong) => Streams {
+            out: 0,
+            said: put_error(ImportError::Text(Refusal::TooManyEvents), said),
+        },
+        Err(NoCapture::NoCall) => Streams { out: 0, said: 0 },
     }
 }
 
-// How much of the text was read, and whether it has ended.
-#[derive(Clone, Copy)]
-struct Turn {
-    stream: Stream,
-    ended: bool,
-}
-
-// One read. It takes what was read so far, and the buffers that are lent for messages, lines and a log's events.
+// One read: what was read of the text then, or None where it has ended.
 fn read_more<R: Read>(
     text: &mut R,
     s: Stream,
-    ask: u64,
-    answer: u64,
-    asked: &mut [u8; 4095],
-    answered: &mut [u8; 4095],
+    ids: Identifiers,
+    lent: &mut Lent,
     out: &mut [u8],
-    log: &mut [u8; LOG_ROOM],
-) -> io::Result<Turn>
-    ensures { IfOk result (λ turn. (t : Turned (length out.old) ask answer
-        (stream_of s asked.old answered.old out.old log.old)
-        (stream_of turn.stream asked.new answered.new out.new log.new) turn.ended) ×
+) -> io::Result<Option<Stream>>
+    ensures { IfOk result (λ more. (t : Turned (length out.old) ids.ask ids.answer (stream_of s lent.old out.old)
+        (stream_of (unwrap_or more s) lent.new out.new) (is_none more)) ×
         Consumes (R.remaining text.old) (R.remaining text.new) t.came.text) }
 {
     let mut chunk = [0u8; 65536];
     let n = read_full(text, &mut chunk)?;
-    Ok(Turn {
-        stream: imports::read_on(
-            s,
-            part(&chunk, 0, n),
-            ask,
-            answer,
-            asked,
-            answered,
-            out,
-            log,
-        ),
-        ended: n == 0,
-    })
+    if n == 0 {
+        return Ok(None);
+    }
+    Ok(Some(imports::read_on(s, part(&chunk, 0, n), ids, lent, out)))
 }
 
-// How many turns are left, and whether the text has ended. (The last turn of all counts as the end.)
+// How much of a text was read, and whether that is all of it.
 #[derive(Clone, Copy)]
-struct Left {
-    turns: u64,
+struct Reached {
+    stream: Stream,
     ended: bool,
 }
 
-fn turns_left(turns: u64, ended: bool, settled: bool) -> Left
-    requires { 0 < turns }
-    ensures { (result.turns ≡ cond (ended || settled) 0 (turns - 1)) ×
-        (result.ended ≡ cond ended true (cond settled false (eqb turns 1))) }
+// All of the text, or so much of it that nothing behind it changes what comes of it. A proved loop has to end, and nothing says that the input does:
+// it ends behind so many turns as no run uses up, which counts as the end of the text.
+fn read_text<R: Read>(
+    text: &mut R,
+    ids: Identifiers,
+    lent: &mut Lent,
+    out: &mut [u8],
+) -> io::Result<Reached>
+    ensures came { IfOk result (λ r. (c : Came (length out.old) ids.ask ids.answer start (stream_of r.stream lent.new out.new)) ×
+        Consumes (R.remaining text.old) (R.remaining text.new) c.text) }
+    ensures stops { IfOk result (λ r. r.ended ≡ false → settled_in r.stream ≡ true) }
 {
-    if ended {
-        return Left {
-            turns: 0,
-            ended: true,
+    let mut stream = imports::begin();
+    for _ in 0..u64::MAX {
+        let Some(more) = read_more(text, stream, ids, lent, out)? else {
+            break;
         };
+        stream = more;
+        if imports::settled(stream) {
+            return Ok(Reached {
+                stream,
+                ended: false,
+            });
+        }
     }
-    if settled {
-        return Left {
-            turns: 0,
-            ended: false,
-        };
-    }
-    Left {
-        turns: turns - 1,
-        ended: turns == 1,
-    }
+    Ok(Reached {
+        stream,
+        ended: true,
+    })
 }
 
 // What comes of a text, and whether it was read to its end.
 #[derive(Clone, Copy)]
 struct Whole {
-    outcome: Outcome,
+    outcome: Result<Told, ImportError>,
     ended: bool,
 }
 
-// The whole text, or so much of it that nothing behind it changes what comes of it. A proved loop has to end, and nothing says that the input does:
-// so it counts its turns down, from a number that no run uses up.
 fn import<R: Read>(
     text: &mut R,
-    ask: u64,
-    answer: u64,
-    asked: &mut [u8; 4095],
-    answered: &mut [u8; 4095],
+    ids: Identifiers,
+    lent: &mut Lent,
     out: &mut [u8],
-    log: &mut [u8; LOG_ROOM],
 ) -> io::Result<Whole>
-    ensures { IfOk result (λ whole. (e : Ends (length out.old) ask answer whole.ended whole.outcome out.new log.new) ×
+    ensures { IfOk result (λ whole. (e : Ends (length out.old) ids.ask ids.answer whole.ended whole.outcome out.new lent.new.log) ×
         Consumes (R.remaining text.old) (R.remaining text.new) e.text) }
 {
-    let mut s = imports::begin();
-    let mut ended = false;
-    let mut turns = u64::MAX;
-    while turns > 0 {
-        let turn = read_more(text, s, ask, answer, asked, answered, out, log)?;
-        s = turn.stream;
-        let next = turns_left(turns, turn.ended, imports::settled(s));
-        ended = next.ended;
-        turns = next.turns;
-    }
-    let outcome = imports::finish(s, ask, answer, asked, answered, out, log);
+    let reached = read_text(text, ids, lent, out)?;
     Ok(Whole {
-        outcome: outcome,
-        ended: ended,
+        outcome: imports::finish(reached.stream, ids, lent, out),
+        ended: reached.ended,
     })
 }
 
 // What goes to both streams, and whether the text was read to its end.
 #[derive(Clone, Copy)]
 struct Imported {
-    out: usize,
-    said: usize,
+    streams: Streams,
     ended: bool,
 }
 
 // `log2uds REQUEST REPLY`
 fn import_lines<R: Read>(
     text: &mut R,
-    ask: u64,
-    answer: u64,
-    asked: &mut [u8; 4095],
-    answered: &mut [u8; 4095],
+    ids: Identifiers,
+    lent: &mut Lent,
     out: &mut [u8],
-    log: &mut [u8; LOG_ROOM],
     said: &mut [u8],
 ) -> io::Result<Imported>
     requires { (length out.old ≡ 272410) × (60 ≤ length said.old) }
-    ensures { IfOk result (λ r. (l : Lines ask answer r.ended r.out out.new r.said said.new) ×
+    ensures { IfOk result (λ r. (l : Lines ids.ask ids.answer r.ended r.streams.out out.new r.streams.said said.new) ×
         Consumes (R.remaining text.old) (R.remaining text.new) l.text) }
 {
-    let whole = import(text, ask, answer, asked, answered, out, log)?;
-    let outcome = whole.outcome;
+    let whole = import(text, ids, lent, out)?;
+    let streams = Streams {
+        out: put_outcome(whole.outcome, out),
+        said: put_left_out(left_out(whole.outcome), said, 0),
+    };
     Ok(Imported {
-        out: put_outcome(outcome, out),
-        said: put_left_out(left_out(outcome), said, 0),
+        streams,
         ended: whole.ended,
     })
 }
@@ -308,27 +263,21 @@ fn import_lines<R: Read>(
 // `log2uds REQUEST REPLY CALL`
 fn import_log<R: Read>(
     text: &mut R,
-    ask: u64,
-    answer: u64,
+    ids: Identifiers,
     call: &[u8],
-    asked: &mut [u8; 4095],
-    answered: &mut [u8; 4095],
+    lent: &mut Lent,
     out: &mut [u8],
-    log: &mut [u8; LOG_ROOM],
-    whole: &mut [u8; 65535],
+    log: &mut [u8; 65535],
     said: &mut [u8],
 ) -> io::Result<Imported>
     requires { (length out.old ≡ 272410) × (272470 ≤ length said.old) }
-    ensures { IfOk result (λ r. (l : Log ask answer call.now r.ended r.out whole.new r.said said.new) ×
+    ensures { IfOk result (λ r. (l : Log ids.ask ids.answer call.now r.ended r.streams.out log.new r.streams.said said.new) ×
         Consumes (R.remaining text.old) (R.remaining text.new) l.text) }
 {
-    let imported = import(text, ask, answer, asked, answered, out, log)?;
-    let outcome = imported.outcome;
-    let ends = put_capture(outcome, call, out, log, whole, said);
+    let whole = import(text, ids, lent, out)?;
     Ok(Imported {
-        out: ends.out,
-        said: ends.said,
-        ended: imported.ended,
+        streams: put_capture(whole.outcome, call, out, &lent.log, log, said),
+        ended: whole.ended,
     })
 }
 
@@ -339,24 +288,13 @@ fn usage(rt: &HostRuntime) -> io::Result<()> {
     )
 }
 
-fn run(rt: &HostRuntime, ask: u64, answer: u64) -> io::Result<()> {
-    let mut asked = [0u8; 4095];
-    let mut answered = [0u8; 4095];
+fn run(rt: &HostRuntime, ids: Identifiers) -> io::Result<()> {
+    let mut lent = Lent::NONE;
     let mut out = [0u8; ROOM];
-    let mut log = [0u8; LOG_ROOM];
     let mut said = [0u8; 60];
-    let ends = import_lines(
-        &mut rt.stdin(),
-        ask,
-        answer,
-        &mut asked,
-        &mut answered,
-        &mut out,
-        &mut log,
-        &mut said,
-    )?;
-    write_full(&mut rt.stderr(), part(&said, 0, ends.said))?;
-    write_full(&mut rt.stdout(), part(&out, 0, ends.out))
+    let streams = import_lines(&mut rt.stdin(), ids, &mut lent, &mut out, &mut said)?.streams;
+    write_full(&mut rt.stderr(), part(&said, 0, streams.said))?;
+    write_full(&mut rt.stdout(), part(&out, 0, streams.out))
 }
 
 // A file to read, by the third word.
@@ -378,7 +316,7 @@ fn write_log(rt: &HostRuntime, whole: &[u8; 65535], n: usize) -> io::Result<()> 
     write_full(&mut rt.stdout(), part(whole, 0, n))
 }
 
-fn run_call(rt: &HostRuntime, ask: u64, answer: u64) -> io::Result<()> {
+fn run_call(rt: &HostRuntime, ids: Identifiers) -> io::Result<()> {
     // one byte more than the longest log
     let mut file = [0u8; 65536];
     let n = read_call(rt, &mut file)?;
@@ -386,34 +324,22 @@ fn run_call(rt: &HostRuntime, ask: u64, answer: u64) -> io::Result<()> {
     if !is_call(call) {
         return usage(rt);
     }
-    let mut asked = [0u8; 4095];
-    let mut answered = [0u8; 4095];
+    let mut lent = Lent::NONE;
     let mut out = [0u8; ROOM];
-    let mut log = [0u8; LOG_ROOM];
-    let mut whole = [0u8; 65535];
+    let mut log = [0u8; 65535];
     let mut said = [0u8; SAID_ROOM];
-    let ends = import_log(
+    let streams = import_log(
         &mut rt.stdin(),
-        ask,
-        answer,
+        ids,
         call,
-        &mut asked,
-        &mut answered,
+        &mut lent,
         &mut out,
         &mut log,
-        &mut whole,
         &mut said,
-    )?;
-    write_full(&mut rt.stderr(), part(&said, 0, ends.said))?;
-    write_log(rt, &whole, ends.out)
-}
-
-fn run_with(rt: &HostRuntime, ask: u64, answer: u64, words: usize) -> io::Result<()> {
-    if words == 3 {
-        run(rt, ask, answer)
-    } else {
-        run_call(rt, ask, answer)
-    }
+    )?
+    .streams;
+    write_full(&mut rt.stderr(), part(&said, 0, streams.said))?;
+    write_log(rt, &log, streams.out)
 }
 
 fn main(rt: HostRuntime) -> io::Result<()> {
@@ -426,11 +352,13 @@ fn main(rt: HostRuntime) -> io::Result<()> {
     let ask = candump::identifier(part(&word, 0, n));
     let m = arg(&rt, 2, &mut word).unwrap_or(0);
     let answer = candump::identifier(part(&word, 0, m));
-    match ask {
-        Named::Id(request) => match answer {
-            Named::Id(reply) => run_with(&rt, request, reply, words),
-            Named::Nothing => usage(&rt),
-        },
-        Named::Nothing => usage(&rt),
+    let (Some(ask), Some(answer)) = (ask, answer) else {
+        return usage(&rt);
+    };
+    let ids = Identifiers { ask, answer };
+    if words == 3 {
+        run(&rt, ids)
+    } else {
+        run_call(&rt, ids)
     }
 }

@@ -1,4 +1,6 @@
 -- At most one answer fits the contracts of `ask_of`, of `laid_in` and of `recorded_in`.
+use Rattle.std.specs.Prelude as code
+use Rattle.std.specs.Prelude.{Some, None}
 use Prim.Native.Nat.{ℕ}
 use mathlib.Core.Bool.{true≢false}
 use mathlib.Core.List.{List, []}
@@ -9,13 +11,7 @@ use Rattle.rules.specs.Calls.{given}
 use Rattle.rules.specs.Events as events
 use Rattle.rules.specs.Logs as logs
 use Rattle.rules.specs.Settings.{Setting}
-use Rattle.exchange.specs.declared.types.RequestTimeout.{RequestTimeout}
-use Rattle.exchange.specs.declared.types.RequestTimeout.TheVariants.{Never, At}
-use Rattle.exchange.specs.declared.types.SubFunction.{SubFunction}
-use Rattle.exchange.specs.declared.types.SubFunction.TheVariants as sub-function
-use Rattle.exchange.specs.declared.types.NoticeLimit.{NoticeLimit}
-use Rattle.exchange.specs.declared.types.NoticeLimit.TheVariants.{Unlimited, AtMost}
-use Rattle.exchange.specs.Meaning.{sub_of, overall_of, limit_of, form_of}
+use Rattle.exchange.specs.Meaning.{option_of, form_of}
 use Rattle.exchange.specs.declared.types.Form.{Form}
 use Rattle.exchange.specs.declared.types.Form.TheVariants.{Plain, Addressed}
 use Rattle.requests.specs.declared.Call.{Call}
@@ -25,33 +21,26 @@ use Rattle.requests.specs.declared.Data.TheVariants.{Absent, Present}
 use Rattle.requests.specs.Meaning.{data_of, call_from}
 use Rattle.calls.specs.Meaning.{setting_of}
 use Rattle.calls.specs.declared.Ask.{Ask}
-use Rattle.logs.specs.Layout.{said}
 use Rattle.logs.specs.declared.header.Header.{Header}
 use Rattle.logs.proofs.Layouts.{said-once}
 use Rattle.log_call.specs.Asking.{session_of, Asks, AskedBy, LaidIn, RecordedIn}
-use Rattle.log_call.specs.declared.Fields.{Fields}
-use Rattle.log_call.specs.declared.Fields.TheVariants as fields
-use Rattle.log_call.specs.declared.Laid.{Laid}
-use Rattle.log_call.specs.declared.Laid.TheVariants as laid
-use Rattle.log_call.specs.declared.Recorded.{Recorded}
-use Rattle.log_call.specs.declared.Recorded.TheVariants as recorded
 
 -- The code's call is given back by what it means.
-abbrev sub_from : Option ℕ → SubFunction
-sub_from none = sub-function.Absent
-sub_from (some s) = sub-function.Given s
+abbrev sub_from : Option ℕ → code.Option ℕ
+sub_from none = None
+sub_from (some s) = Some s
 
 abbrev data_from : Option (List ℕ) → Data
 data_from none = Absent
 data_from (some d) = Present
 
-abbrev overall_from : Option ℕ → RequestTimeout
-overall_from none = Never
-overall_from (some t) = At t
+abbrev overall_from : Option ℕ → code.Option ℕ
+overall_from none = None
+overall_from (some t) = Some t
 
-abbrev limit_from : Option ℕ → NoticeLimit
-limit_from none = Unlimited
-limit_from (some k) = AtMost k
+abbrev limit_from : Option ℕ → code.Option ℕ
+limit_from none = None
+limit_from (some k) = Some k
 
 abbrev form_from : events.Form → Form
 form_from events.plain = Plain
@@ -75,21 +64,21 @@ call_back (rules.transfer counter d) = call.TransferData counter (data_from d)
 call_back (rules.transfer_exit d) = call.RequestTransferExit (data_from d)
 call_back (rules.fault_list mask) = call.ReadDTCInformationDTC mask
 
-sub_back : (s : SubFunction) → sub_from (sub_of s) ≡ s
-sub_back sub-function.Absent = refl
-sub_back (sub-function.Given s) = refl
+sub_back : (s : code.Option ℕ) → sub_from (option_of s) ≡ s
+sub_back None = refl
+sub_back (Some s) = refl
 
 data-back : (p : Data) → data_from (data_of p []) ≡ p
 data-back Absent = refl
 data-back Present = refl
 
-overall-back : (t : RequestTimeout) → overall_from (overall_of t) ≡ t
-overall-back Never = refl
-overall-back (At t) = refl
+overall-back : (t : code.Option ℕ) → overall_from (option_of t) ≡ t
+overall-back None = refl
+overall-back (Some t) = refl
 
-limit-back : (k : NoticeLimit) → limit_from (limit_of k) ≡ k
-limit-back Unlimited = refl
-limit-back (AtMost k) = refl
+limit-back : (k : code.Option ℕ) → limit_from (option_of k) ≡ k
+limit-back None = refl
+limit-back (Some k) = refl
 
 form-back : (f : Form) → form_from (form_of f) ≡ f
 form-back Plain = refl
@@ -129,25 +118,25 @@ asks-unique {h} {r} {r'} k k' =
     λ i. record { call = calls i; quiet = quiets i; strict = stricts i; server = servers i; overall = overalls i; limit = limits i; channel = channels i }
 
 -- `ask_of`
-pub unique : (h : logs.Header) (r r' : Fields) → AskedBy h r → AskedBy h r' → r ≡ r'
-unique h (fields.Ask r) (fields.Ask r') k k' = ap fields.Ask (asks-unique k.1 k'.1)
-unique h (fields.Ask r) fields.Unsound k k' = absurd (true≢false (sym k.0 ∙ k'))
-unique h fields.Unsound (fields.Ask r') k k' = absurd (true≢false (sym k'.0 ∙ k))
-unique h fields.Unsound fields.Unsound k k' = refl
+pub unique : (h : logs.Header) (r r' : (code.Option Ask)) → AskedBy h r → AskedBy h r' → r ≡ r'
+unique h (Some r) (Some r') k k' = ap Some (asks-unique k.1 k'.1)
+unique h (Some r) None k k' = absurd (true≢false (sym k.0 ∙ k'))
+unique h None (Some r') k k' = absurd (true≢false (sym k'.0 ∙ k))
+unique h None None k k' = refl
 
 -- `laid_in`
-pub laid-unique : (l : List ℕ) (r r' : Laid) → LaidIn l r → LaidIn l r' → r ≡ r'
-laid-unique l (laid.Out h) (laid.Out h') k k' = ap laid.Out (said-once h h' (k.1 ∙ sym k'.1))
-laid-unique l (laid.Out h) laid.BadLog k k' = absurd (true≢false (sym k.0 ∙ k'))
-laid-unique l laid.BadLog (laid.Out h) k k' = absurd (true≢false (sym k'.0 ∙ k))
-laid-unique l laid.BadLog laid.BadLog k k' = refl
+pub laid-unique : (l : List ℕ) (r r' : (code.Option Header)) → LaidIn l r → LaidIn l r' → r ≡ r'
+laid-unique l (Some h) (Some h') k k' = ap Some (said-once h h' (k.1 ∙ sym k'.1))
+laid-unique l (Some h) None k k' = absurd (true≢false (sym k.0 ∙ k'))
+laid-unique l None (Some h) k k' = absurd (true≢false (sym k'.0 ∙ k))
+laid-unique l None None k k' = refl
 
 -- `recorded_in`
-pub recorded-unique : (l : List ℕ) (r r' : Recorded) → RecordedIn l r → RecordedIn l r' → r ≡ r'
-recorded-unique l (recorded.Call h r) (recorded.Call h' r') k k' =
+pub recorded-unique : (l : List ℕ) (r r' : code.Option (Header × Ask)) → RecordedIn l r → RecordedIn l r' → r ≡ r'
+recorded-unique l (Some (h, r)) (Some (h', r')) k k' =
     let same : h ≡ h' = said-once h h' (k.1 ∙ sym k'.1) in
     let asks : r ≡ r' = asks-unique k.2 (rw (← same) at k'.2) in
-    λ i. recorded.Call (same i) (asks i)
-recorded-unique l (recorded.Call h r) recorded.BadLog k k' = absurd (true≢false (sym k.0 ∙ k'))
-recorded-unique l recorded.BadLog (recorded.Call h r) k k' = absurd (true≢false (sym k'.0 ∙ k))
-recorded-unique l recorded.BadLog recorded.BadLog k k' = refl
+    λ i. Some (same i, asks i)
+recorded-unique l (Some (h, r)) None k k' = absurd (true≢false (sym k.0 ∙ k'))
+recorded-unique l None (Some (h, r)) k k' = absurd (true≢false (sym k'.0 ∙ k))
+recorded-unique l None None k k' = refl

@@ -1,4 +1,6 @@
 -- What a header asks, with address, size and data beside it.
+use Rattle.std.specs.Prelude as code
+use Rattle.std.specs.Prelude.{Some, None}
 use Rattle.std.specs.Prelude.{ℕ, List, ◌≡◌, true, false, eqb, get_or}
 use Rattle.rules.specs.Calls.{Call, Field, tester_present}
 use Rattle.rules.specs.Logs as rules
@@ -9,12 +11,7 @@ use Rattle.exchange.specs.Meaning.{form_of}
 use Rattle.exchange.specs.declared.types.Timing.{Timing}
 use Rattle.calls.specs.declared.Ask.{Ask}
 use Rattle.logs.specs.Layout.{said}
-use Rattle.log_call.specs.declared.Fields.{Fields}
-use Rattle.log_call.specs.declared.Fields.TheVariants as fields
-use Rattle.log_call.specs.declared.Laid.{Laid}
-use Rattle.log_call.specs.declared.Laid.TheVariants as laid
-use Rattle.log_call.specs.declared.Recorded.{Recorded}
-use Rattle.log_call.specs.declared.Recorded.TheVariants as recorded
+use Rattle.logs.specs.declared.header.Header as written
 
 -- The call: `call_of` of `rules`, which reads address, size and data from the log.
 abbrev pub chosen : Header → Field → Field → List ℕ → Call
@@ -33,16 +30,16 @@ pub record Asks (h : Header) (r : Ask) : Type 0 where
   pub call : (a s : Field) (d : List ℕ) → call_from r.call a s d ≡ chosen h a s d
 
 -- The fields suit their call, and this is asked; or they do not.
-abbrev pub AskedBy : Header → Fields → Type 0
-AskedBy h (fields.Ask r) = (fields_ok h (uses_of h.call) ≡ true) × Asks h r
-AskedBy h fields.Unsound = fields_ok h (uses_of h.call) ≡ false
+abbrev pub AskedBy : Header → code.Option Ask → Type 0
+AskedBy h (Some r) = (fields_ok h (uses_of h.call) ≡ true) × Asks h r
+AskedBy h None = fields_ok h (uses_of h.call) ≡ false
 
 -- The log's header, where all of its layout is sound but for what its call uses of the fields; or it is "any other layout".
-abbrev pub LaidIn : List ℕ → Laid → Type 0
-LaidIn l (laid.Out h) = (laid_out (header_of l) l ≡ true) × (said h ≡ header_of l)
-LaidIn l laid.BadLog = laid_out (header_of l) l ≡ false
+abbrev pub LaidIn : List ℕ → code.Option written.Header → Type 0
+LaidIn l (Some h) = (laid_out (header_of l) l ≡ true) × (said h ≡ header_of l)
+LaidIn l None = laid_out (header_of l) l ≡ false
 
 -- The log's layout is sound, and its header asks this; or it is "any other layout".
-abbrev pub RecordedIn : List ℕ → Recorded → Type 0
-RecordedIn l (recorded.Call h r) = (layout_ok l ≡ true) × (said h ≡ header_of l) × Asks (said h) r
-RecordedIn l recorded.BadLog = layout_ok l ≡ false
+abbrev pub RecordedIn : List ℕ → code.Option (written.Header × Ask) → Type 0
+RecordedIn l (Some (h, r)) = (layout_ok l ≡ true) × (said h ≡ header_of l) × Asks (said h) r
+RecordedIn l None = layout_ok l ≡ false

@@ -5,14 +5,14 @@ ghost use Rattle.std.specs.Prelude.{true, cond, List, ◌≡◌, ℕ, ◌/◌, �
 ghost use Rattle.rules.specs.Calls.{Field};
 ghost use Rattle.rules.specs.Logs as rules;
 ghost use Rattle.rules.specs.Logs.{uses_of, fields_ok, some?};
-ghost use Rattle.exchange.specs.Meaning.{sub_of, overall_of};
+ghost use Rattle.exchange.specs.Meaning.{option_of};
 ghost use Rattle.requests.specs.declared.Data.TheVariants.{Absent, Present};
 ghost use Rattle.requests.specs.Meaning.{call_from};
 ghost use Rattle.logs.specs.Layout.{said};
 ghost use Rattle.log_call.specs.Asking.{chosen, Asks, AskedBy, LaidIn, RecordedIn};
 
 use calls::Ask;
-use exchange::types::{Channel, NoticeLimit, RequestTimeout, SubFunction};
+use exchange::types::Channel;
 use logs::header::{Header, form_in};
 use logs::layout::{laid_out, suits};
 use logs::reader::read_header;
@@ -26,23 +26,19 @@ fn flag(flags: u8, weight: u8) -> bool
     flags / weight % 2 == 1
 }
 
-fn sub_of(h: Header) -> SubFunction
-    ensures { sub_of result ≡ some? (eqb (rules.flag 16 (said h)) 1) h.sub }
+fn sub_of(h: Header) -> Option<u8>
+    ensures { option_of result ≡ some? (eqb (rules.flag 16 (said h)) 1) h.sub }
 {
-    if flag(h.flags, 16) {
-        SubFunction::Given(h.sub)
-    } else {
-        SubFunction::Absent
-    }
+    if flag(h.flags, 16) { Some(h.sub) } else { None }
 }
 
-fn overall_of(h: Header) -> RequestTimeout
-    ensures { overall_of result ≡ some? (eqb (rules.flag 8 (said h)) 1) h.overall }
+fn overall_of(h: Header) -> Option<u32>
+    ensures { option_of result ≡ some? (eqb (rules.flag 8 (said h)) 1) h.overall }
 {
     if flag(h.flags, 8) {
-        RequestTimeout::At(h.overall)
+        Some(h.overall)
     } else {
-        RequestTimeout::Never
+        None
     }
 }
 
@@ -104,65 +100,35 @@ fn ask_for(h: Header) -> Ask
         strict: flag(flags, 1),
         server: flag(flags, 2),
         overall,
-        limit: NoticeLimit::Unlimited,
+        limit: None,
         channel,
     }
 }
 
-// What a header's fields ask: a call, or none, since they do not suit their call.
-#[derive(Clone, Copy)]
-pub enum Fields {
-    Ask(Ask),
-    Unsound,
-}
-
-pub fn ask_of(h: Header) -> Fields
+// What a header's fields ask; None where they do not suit their call.
+pub fn ask_of(h: Header) -> Option<Ask>
     ensures { AskedBy (said h) result }
 {
-    if suits(h) {
-        Fields::Ask(ask_for(h))
-    } else {
-        Fields::Unsound
-    }
+    if suits(h) { Some(ask_for(h)) } else { None }
 }
 
-// A log's header, where every test of the layout passes but that the fields suit the call; or it is no log.
-#[derive(Clone, Copy)]
-pub enum Laid {
-    Out(Header),
-    BadLog,
-}
-
-pub fn laid_in(log: &[u8]) -> Laid
+// A log's header, where every test of the layout passes but that the fields suit the call; else it is no log.
+pub fn laid_in(log: &[u8]) -> Option<Header>
     ensures { LaidIn log.now result }
 {
     // shorter than either header; behind this the compiler knows that what it reads of a header is there
     if log.len() < 36 {
-        return Laid::BadLog;
+        return None;
     }
     let h = read_header(log);
-    if laid_out(log, h) {
-        Laid::Out(h)
-    } else {
-        Laid::BadLog
-    }
+    if laid_out(log, h) { Some(h) } else { None }
 }
 
-// What a log asks: its header and the call of its fields; or it is no log.
-#[derive(Clone, Copy)]
-pub enum Recorded {
-    Call(Header, Ask),
-    BadLog,
-}
-
-pub fn recorded_in(log: &[u8]) -> Recorded
+// What a log asks: its header and the call of its fields; None where it is no log.
+pub fn recorded_in(log: &[u8]) -> Option<(Header, Ask)>
     ensures { RecordedIn log.now result }
 {
-    match laid_in(log) {
-        Laid::BadLog => Recorded::BadLog,
-        Laid::Out(h) => match ask_of(h) {
-            Fields::Ask(ask) => Recorded::Call(h, ask),
-            Fields::Unsound => Recorded::BadLog,
-        },
-    }
+    let h = laid_in(log)?;
+    let ask = ask_of(h)?;
+    Some((h, ask))
 }

@@ -1,4 +1,6 @@
 -- Laws of a log's answer and of its line, where its layout is sound and where it is not.
+use Rattle.std.specs.Prelude as code
+use Rattle.std.specs.Prelude.{Some, None}
 use Prim.Native.Nat.{ℕ}
 use mathlib.Core.Bool.{true, false, true≢false}
 use mathlib.Core.List.{List, []}
@@ -23,12 +25,9 @@ use Rattle.logs.specs.Layout.{said}
 use Rattle.logs.specs.declared.header.Header as header
 use Rattle.logs.proofs.Layouts.{said-once}
 use Rattle.text.specs.Written.{Wrote, text}
-use Rattle.text.specs.declared.Written.{Written}
 use Rattle.text.proofs.Lines.{badlog-text}
 use Rattle.log_call.specs.Asking.{chosen, session_of, Asks}
 use Rattle.log_line.specs.Answered.{AnsweredIn}
-use Rattle.log_line.specs.declared.LogAnswer.{LogAnswer}
-use Rattle.log_line.specs.declared.LogAnswer.TheVariants as told
 
 -- The call that the code makes is the log's.
 pub answered : (l : List ℕ) (h : Header) {ask : Ask} {a s d es rs : List ℕ} {r : Answered} {buffer : List ℕ} → h ≡ header_of l
@@ -59,11 +58,11 @@ module _ (l : List ℕ) where
   unfolding line_of
   line-sound e = rw e
 
-  module _ {before after : List ℕ} {r : Written} where
+  module _ {before after : List ℕ} {r : code.Option ℕ} where
     pub bad : layout_ok l ≡ false → Wrote (text (ascii "badlog") 0 0 0 []) before r after → Wrote (line_of l) before r after
     bad e w = rw (line-bad e, badlog-text) w
 
-    pub sound : {h : header.Header} {x : Answer} {rs : List ℕ} → AnsweredIn l (told.Answer h x) → rs ≡ reply_bytes (said h) l
+    pub sound : {h : header.Header} {x : Answer} {rs : List ℕ} → AnsweredIn l (Some (h, x)) → rs ≡ reply_bytes (said h) l
         → Wrote (line (exchange.answer_of rs x)) before r after → Wrote (line_of l) before r after
     sound {h} {x} {rs} k here w =
         let there : rs ≡ reply_bytes (header_of l) l = here ∙ ap (λ (y : Header). reply_bytes y l) k.1 in
@@ -71,11 +70,11 @@ module _ (l : List ℕ) where
         subst (λ (bs : List ℕ). Wrote bs before r after) same w
 
 -- At most one answer fits the contract of `answer_of`.
-pub unique : (l : List ℕ) (r r' : LogAnswer) → AnsweredIn l r → AnsweredIn l r' → r ≡ r'
-unique l (told.Answer h x) (told.Answer h' x') k k' =
+pub unique : (l : List ℕ) (r r' : code.Option (header.Header × Answer)) → AnsweredIn l r → AnsweredIn l r' → r ≡ r'
+unique l (Some (h, x)) (Some (h', x')) k k' =
     let headers : h ≡ h' = said-once h h' (k.1 ∙ sym k'.1) in
     let answers : x ≡ x' = answers-unique (reply_bytes (header_of l) l) k.2 k'.2 in
-    λ i. told.Answer (headers i) (answers i)
-unique l (told.Answer h x) told.BadLog k k' = absurd (true≢false (sym k.0 ∙ k'))
-unique l told.BadLog (told.Answer h x) k k' = absurd (true≢false (sym k'.0 ∙ k))
-unique l told.BadLog told.BadLog k k' = refl
+    λ i. Some (headers i, answers i)
+unique l (Some (h, x)) None k k' = absurd (true≢false (sym k.0 ∙ k'))
+unique l None (Some (h, x)) k k' = absurd (true≢false (sym k'.0 ∙ k))
+unique l None None k k' = refl

@@ -1,4 +1,6 @@
 -- No log has a longer line than `LONGEST` says, so a buffer of that length has room for every one.
+use Rattle.std.specs.Prelude as code
+use Rattle.std.specs.Prelude.{Some}
 use Prim.Native.Nat.{ℕ, zero, suc, ◌+◌, ◌-◌, ◌*◌, ◌/◌, ◌%◌, ◌≤◌, ◌<◌, max}
 use native.Mathlib.Omega.{arith}
 use mathlib.Core.Bool.{Bool, true, false, cond, ◌&&◌}
@@ -27,8 +29,6 @@ use Rattle.rules.proofs.Judging.{both, judge-ind, pass-append}
 use Rattle.rules.proofs.Turns.{Through, settle-ind}
 use Rattle.exchange.proofs.Entries.{all_sound, few-entries}
 use Rattle.text.specs.Written.{Wrote, shown}
-use Rattle.text.specs.declared.Written.{Written}
-use Rattle.text.specs.declared.Written.TheVariants.{Line}
 use Rattle.text.proofs.Lines.{line-text, longest}
 use Rattle.text.proofs.Numerals.{shown-fits}
 use Rattle.log_line.proofs.Answering.{line-bad, line-sound}
@@ -257,14 +257,14 @@ module _ (l : List ℕ) (bytes : (i : ℕ) → get_or l i 0 < 256) where
       go false e = rw (line-bad l e) (omega arith)
 
   -- A buffer of that length always has room, and the line stands at its front.
-  module _ {before after : List ℕ} {r : Written} (h : 8222 ≤ length before) (w : Wrote (line_of l) before r after) where
+  module _ {before after : List ℕ} {r : code.Option ℕ} (h : 8222 ≤ length before) (w : Wrote (line_of l) before r after) where
     fits : leb (length (line_of l)) (length before) ≡ true
     fits = le-leb (length (line_of l)) (length before) (omega (arith, line-fits))
 
-    pub always-room : r ≡ Line (length (line_of l))
+    pub always-room : r ≡ Some (length (line_of l))
     always-room = w.answer ∙ rw fits
 
-    pub stands : {n : ℕ} → r ≡ Line n → take n after ≡ line_of l
+    pub stands : {n : ℕ} → r ≡ Some n → take n after ≡ line_of l
     stands {n = n} e =
         let long : n ≡ length (line_of l) = cc always-room in
         let whole : after ≡ line_of l ++ drop (length (line_of l)) before = w.line ∙ rw fits in

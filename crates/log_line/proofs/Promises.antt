@@ -16,7 +16,7 @@ use Rattle.rules.specs.Demand1.{Numbered}
 use Rattle.rules.specs.Demand3.{Named, Refused, Answers}
 use Rattle.rules.specs.Foreign.{left_in, raised, uncounted, bare, bare_answer}
 use Rattle.rules.specs.Lenient.{Deviates}
-use Rattle.rules.specs.Lines.{ascii, decimal_to, hex, line, badlog}
+use Rattle.rules.specs.Lines.{ascii, decimal_to, hex, line}
 use Rattle.rules.specs.Logs.{header_of, flag, layout_ok, call_of, setting_of, lent_of, answer_of, line_of}
 use Rattle.rules.specs.Settings.{Setting, Lent}
 use Rattle.rules.proofs.Demand1.{demand1}

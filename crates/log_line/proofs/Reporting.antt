@@ -1,4 +1,5 @@
 -- Laws of the line of an answer.
+use Rattle.std.specs.Prelude as code
 use Prim.Native.Nat.{ℕ}
 use mathlib.Core.List.{List, ◌∷◌}
 use mathlib.Core.Path.{◌≡◌, refl}
@@ -10,7 +11,6 @@ use Rattle.exchange.specs.declared.error.ProtocolDeviation.TheVariants as protoc
 use Rattle.exchange.specs.declared.types.Outcome.{Outcome}
 use Rattle.exchange.specs.declared.types.Answer.{Answer}
 use Rattle.text.specs.Written.{Wrote, text}
-use Rattle.text.specs.declared.Written.{Written}
 use Rattle.text.proofs.Lines.{line-text}
 
 -- "deviation number (2) and reply"
@@ -32,7 +32,7 @@ deviates protocol.InvalidMemorySize reply = (refl, refl)
 deviates protocol.InvalidMemoryRecordLength reply = (refl, refl)
 
 -- The line of an answer whose outcome is o.
-pub told : (replies : List ℕ) (x : Answer) {o : Outcome} {before after : List ℕ} {r : Written} → x.outcome ≡ o →
+pub told : (replies : List ℕ) (x : Answer) {o : Outcome} {before after : List ℕ} {r : code.Option ℕ} → x.outcome ≡ o →
     Wrote (text (ascii (word (outcome_of replies o))) x.time x.events x.notices (detail (outcome_of replies o) (part_of replies x.reply).bytes)) before r after →
     Wrote (line (answer_of replies x)) before r after
 told replies x e h = rw (line-text (answer_of replies x), e) h

@@ -3,13 +3,13 @@ ghost use Rattle.rules.specs.Lines as lines;
 ghost use Rattle.exchange.specs.Meaning.{answer_of};
 ghost use Rattle.text.specs.Written.{Wrote};
 
-use exchange::error::{Fault, deviation_number};
+use exchange::error::Fault;
 use exchange::types::{Answer, Outcome};
-use text::{Written, words};
+use text::put_line;
 use wire::part;
 
 // "outcome, finishing time, events read, notices, detail"; the answer's places are parts of the lent reply bytes.
-pub fn put_answer(line: &mut [u8], answer: Answer, replies: &[u8]) -> Written
+pub fn put_answer(line: &mut [u8], answer: Answer, replies: &[u8]) -> Option<usize>
     ensures { Wrote (lines.line (answer_of replies.now answer)) line.old result line.new }
 {
     let outcome = answer.outcome;
@@ -21,22 +21,58 @@ pub fn put_answer(line: &mut [u8], answer: Answer, replies: &[u8]) -> Written
     match outcome {
         Outcome::PositiveResponse(data) => {
             let bytes = part(replies, data.at, data.len);
-            words::positive(line, time, events, notices, bytes)
+            put_line(line, b"positive", time, events, notices, b"", bytes)
         }
-        Outcome::Suppressed => words::suppressed(line, time, events, notices),
-        Outcome::NegativeResponse(code) => words::negative(line, time, events, notices, code),
-        Outcome::Timeout => words::timeout(line, time, events, notices),
-        Outcome::Disconnected => words::disconnected(line, time, events, notices),
-        Outcome::Transport(error) => words::transport(line, time, events, notices, error),
+        Outcome::Suppressed => put_line(line, b"suppressed", time, events, notices, b"", b""),
+        Outcome::NegativeResponse(code) => put_line(
+            line,
+            b"negative",
+            time,
+            events,
+            notices,
+            &[code],
+            b"",
+        ),
+        Outcome::Timeout => put_line(line, b"timeout", time, events, notices, b"", b""),
+        Outcome::Disconnected => put_line(line, b"disconnected", time, events, notices, b"", b""),
+        Outcome::Transport(error) => put_line(
+            line,
+            b"transport",
+            time,
+            events,
+            notices,
+            b"",
+            &error.to_be_bytes(),
+        ),
         Outcome::Fault(fault) => match fault {
             Fault::ProtocolDeviation(deviation) => {
-                let number = deviation_number(deviation);
-                words::deviation(line, time, events, notices, number, reply)
+                let number = u8::from(deviation);
+                put_line(line, b"deviation", time, events, notices, &[number], reply)
             }
-            Fault::InvalidResponseLength => words::length(line, time, events, notices),
-            Fault::BlockLengthOverflow => words::overflow(line, time, events, notices, reply),
+            Fault::InvalidResponseLength => put_line(
+                line, b"length", time, events, notices, b"", b"",
+            ),
+            Fault::BlockLengthOverflow => put_line(
+                line,
+                b"overflow",
+                time,
+                events,
+                notices,
+                b"",
+                reply,
+            ),
         },
-        Outcome::Refused(refusal) => words::refused(line, time, events, notices, refusal),
-        Outcome::PendingLimit => words::pending_limit(line, time, events, notices),
+        Outcome::Refused(refusal) => {
+            put_line(
+                line,
+                b"refused",
+                time,
+                events,
+                notices,
+                &[u8::from(refusal)],
+                b"",
+            )
+        }
+        Outcome::PendingLimit => put_line(line, b"pendinglimit", time, events, notices, b"", b""),
     }
 }

@@ -4,9 +4,8 @@ use native.Mathlib.Nat.{zero-add}
 use native.Mathlib.Omega.{arith}
 use mathlib.Core.Bool.{Bool, true, false, cond}
 use mathlib.Core.List.{List, [], ◌∷◌, ◌++◌, append_assoc}
-use mathlib.Core.Logic.{◌⊎◌, inl, inr}
 use mathlib.Core.Path.{◌≡◌, refl, sym, ap, subst, ◌∙◌}
-use borrow.Author.Tests.{lt-ltb, le-ltb, le-leb, lt-leb, leb-true, leb-false}
+use borrow.Author.Tests.{lt-ltb, le-ltb, le-leb, lt-leb, leb-true, leb-false, ltb-true, ltb-false}
 use lib.Dec.{leb, ltb}
 use lib.ListN.{length, take, drop, length-take, length-drop, length-append, get_or-append}
 use lib.Seq.{take_all, drop-append-le, take-append-le, drop-drop}
@@ -23,7 +22,7 @@ use Rattle.log_files.proofs.Files.{lines-first, lines-bad}
 use Rattle.log_files.proofs.Long.{long-is-bad}
 use Rattle.log_files.proofs.Said.{said-whole, said-long}
 use Rattle.log_lines.specs.declared.Batch.{Batch}
-use Rattle.log_lines.specs.Batches.{Passed, behind, whole, said_behind, whole_said, following, Counts, Over, NotWhole, Stops, Goes, Batched, said_at_end, Rest, Cut}
+use Rattle.log_lines.specs.Batches.{Passed, behind, whole, said_behind, whole_said, following, Counts, Over, Goes, said_at_end, Rest, Cut}
 use Rattle.log_lines.proofs.Lining.{stood}
 
 -- No byte is no log.
@@ -122,20 +121,6 @@ passes a left logs file inside = go (leb (a + left) (length file)) refl
 pub numbered : (logs : ℕ) (file : List ℕ) → Counts logs file → 0 < length file → following logs ≡ suc logs
 numbered logs file h some = rw (lt-ltb logs 18446744073709551615 (omega arith))
 
--- Nothing more to take.
-pub stays : (b : Batch) (input out said : List ℕ) → (b.taken ≤ length input) × (b.written ≤ length out) × (b.said ≤ length said) × Over b input →
-    Stops b input (length out) (length said) → Goes b input out said b out said
-stays b input out said h stops = record {
-  inside = h.0;
-  room = h.1;
-  room_to_say = h.2;
-  over = h.3;
-  same = λ more bytes. refl;
-  says = λ more few. refl;
-  counts = omega arith;
-  moves = inr (refl, refl, refl, stops);
-}
-
 pub at-most : (logs : ℕ) → following logs ≤ suc logs
 at-most logs = go (ltb logs 18446744073709551615)
   where
@@ -199,7 +184,7 @@ module _ (b r : Batch) (input out after line said told words : List ℕ) (k : �
     same = λ more bytes. further more (step more bytes);
     says = λ more few. said-further more few (step-said more few);
     counts = omega (arith, counted, at-most b.logs, on);
-    moves = inl on;
+    on = on;
   }
 
 -- What is passed over of a log that is too long is at least its length's four bytes.
@@ -208,9 +193,12 @@ moves-on at n size zero taken some far over = omega arith
 moves-on at n size (suc left) taken some far over = omega (arith, over (omega arith))
 
 -- The next step, by what it reads: the rest of the input, and the length that it begins with.
-module _ (b : Batch) (input rest : List ℕ) (is : rest ≡ take (length input) (drop b.taken input)) where
+module _ (b : Batch) (input : List ℕ) where
+  abbrev rest : List ℕ
+  rest = take (length input - b.taken) (drop b.taken input)
+
   all_of : rest ≡ drop b.taken input
-  all_of = is ∙ take_all (length input) (drop b.taken input) (omega (arith, length-drop b.taken input))
+  all_of = take_all (length input - b.taken) (drop b.taken input) (omega (arith, length-drop b.taken input))
 
   lengths : length rest ≡ length input - b.taken
   lengths = ap length all_of ∙ length-drop b.taken input
@@ -219,23 +207,20 @@ module _ (b : Batch) (input rest : List ℕ) (is : rest ≡ take (length input) 
     size_is : k ≡ size (drop b.taken input)
     size_is = sized ∙ ap size all_of
 
-    pub cut : length rest < 4 + k → (4 ≤ length rest → k ≤ 65535) → NotWhole (drop b.taken input)
-    cut h small =
-        let same : length rest ≡ length (drop b.taken input) = ap length all_of in
-        (omega (arith, h, same, size_is), λ four. omega (arith, small (omega (arith, same, four)), size_is))
-
     module _ (out said : List ℕ) (first : b.left ≤ 0) (room : b.written ≤ length out) (room_to_say : b.said ≤ length said)
         (four : 4 ≤ length rest) where
       some : b.taken + 4 ≤ length input
       some = omega (arith, lengths, four)
 
-      pub whole-goes : (log after : List ℕ) (w n : ℕ) → k ≤ length rest - 4 → k ≤ 65535 → n ≡ following b.logs → log ≡ take k (drop 4 rest) →
-          Put out b.written (line_of log) after w → w ≤ length after →
-          Goes b input out said (record { left = 0; taken = b.taken + 4 + k; written = w; logs = n; said = b.said }) after said
-      whole-goes log after w n fits short counted own wrote ends =
+      pub whole-goes : (after : List ℕ) (w n : ℕ) → k ≤ length rest - 4 → k ≤ 65535 → n ≡ following b.logs →
+          Put out b.written (line_of (take (4 + k - 4) (drop 4 rest))) after w → w ≤ length after →
+          Goes b input out said (record b { taken = b.taken + 4 + k; written = w; logs = n }) after said
+      whole-goes after w n fits short counted wrote ends =
+          let log : List ℕ = take (4 + k - 4) (drop 4 rest) in
+          let same : 4 + k - 4 ≡ k = omega arith in
           let ends-here : 4 + k ≤ length (drop b.taken input) = omega (arith, fits, four, lengths, length-drop b.taken input) in
-          let the-log : log ≡ take k (drop 4 (drop b.taken input)) = own ∙ ap (λ (l : List ℕ). take k (drop 4 l)) all_of in
-          goes b (record { left = 0; taken = b.taken + 4 + k; written = w; logs = n; said = b.said }) input out after (line_of log) said said [] k
+          let the-log : log ≡ take k (drop 4 (drop b.taken input)) = (λ i. take (same i) (drop 4 (all_of i))) in
+          goes b (record b { taken = b.taken + 4 + k; written = w; logs = n }) input out after (line_of log) said said [] k
           first room wrote room_to_say (none said b.said) (omega arith) counted some
           (omega (arith, ends-here, length-drop b.taken input)) (omega arith)
           ends room_to_say (λ h. absurd (omega arith))
@@ -261,48 +246,6 @@ module _ (b : Batch) (input rest : List ℕ) (is : rest ≡ take (length input) 
           (sym (counted ∙ numbered b.logs (drop b.taken (input ++ more)) few
           (omega (arith, some, length-drop b.taken (input ++ more), length-append input more)))))
 
--- The loop's beginning and its end.
-module _ (left logs : ℕ) (input : List ℕ) (r : Batch) (p : Passed left 0 (length input) 0 logs 0 r) (more : List ℕ) where
-  abbrev all : List ℕ
-  all = input ++ more
-
-  far : left ≡ r.taken + r.left
-  far = omega (arith, p.1)
-
-  pub begins : (out : List ℕ) → lines_of (drop left all) ≡ whole r input out more
-  begins out =
-      let place : drop left all ≡ behind r input more = ap (λ (n : ℕ). drop n all) far ∙ sym (drop-drop r.left r.taken all) in
-      ap lines_of place ∙ ap (λ (n : ℕ). take n out ++ lines_of (behind r input more)) (sym p.3)
-
-  pub begins-said : (said : List ℕ) → said_behind left logs all ≡ whole_said r input said more
-  begins-said said =
-      ap (λ (n : ℕ). said_behind n logs all) far ∙
-      passes r.taken r.left logs all (omega (arith, p.0, length-append input more)) ∙
-      ap (λ (n : ℕ). said_behind r.left n (drop r.taken all)) (sym p.5) ∙
-      ap (λ (n : ℕ). take n said ++ said_behind r.left r.logs (drop r.taken all)) (sym p.6)
-
--- What a step that does not go on says.
-abbrev Stays : Batch → List ℕ → List ℕ → List ℕ → Batch → List ℕ → List ℕ → Type 0
-Stays b input before said r after told = (r ≡ b) × (after ≡ before) × (told ≡ said) × Stops b input (length before) (length said)
-
--- A step that takes nothing changes nothing; any other goes on.
-pub stopped : {b r : Batch} {input before said after told : List ℕ} → Goes b input before said r after told → r.taken ≡ b.taken
-    → (after ≡ before) × (told ≡ said) × Stops b input (length before) (length said)
-stopped {b} {r} {input} {before} {said} {after} {told} g e = go g.moves
-  where
-    go : (b.taken < r.taken) ⊎ Stays b input before said r after told →
-        (after ≡ before) × (told ≡ said) × Stops b input (length before) (length said)
-    go (inl on) = absurd (omega arith)
-    go (inr x) = (x.1, x.2, x.3)
-
-pub went_on : {b r : Batch} {input before said after told : List ℕ} → Goes b input before said r after told → (r.taken ≡ b.taken → ⊥) →
-    b.taken < r.taken
-went_on {b} {r} {input} {before} {said} {after} {told} g e = go g.moves
-  where
-    go : (b.taken < r.taken) ⊎ Stays b input before said r after told → b.taken < r.taken
-    go (inl on) = on
-    go (inr x) = absurd (e (ap (λ (y : Batch). y.taken) x.0))
-
 -- What the loop of `lines` keeps.
 pub record Held (left logs : ℕ) (input before unsaid out said : List ℕ) (b : Batch) : Type 0 where
   pub inside : b.taken ≤ length input
@@ -316,71 +259,8 @@ pub record Held (left logs : ℕ) (input before unsaid out said : List ℕ) (b :
   pub long : length out ≡ length before
   pub long-said : length said ≡ length unsaid
 
-pub held_first : (left logs : ℕ) (input out said : List ℕ) (r : Batch) → Passed left 0 (length input) 0 logs 0 r →
-    Held left logs input out said out said r
-held_first left logs input out said r p = record {
-  inside = p.0;
-  room = omega (arith, p.3);
-  room_to_say = omega (arith, p.6);
-  over = p.4;
-  none = λ e. (p.3, p.6);
-  lines = λ more bytes. begins left logs input r p more out;
-  says = λ more few. begins-said left logs input r p more said;
-  counts = omega (arith, p.5);
-  long = refl;
-  long-said = refl;
-}
-
-module _ {left logs : ℕ} {input before unsaid out said after told : List ℕ} {b r : Batch} (held : Held left logs input before unsaid out said b)
-    (g : Goes b input out said r after told) where
-  none-on : (b.taken < r.taken) ⊎ Stays b input out said r after told → r.taken ≡ 0 → (r.written ≡ 0) × (r.said ≡ 0)
-  none-on (inl on) e = absurd (omega arith)
-  none-on (inr x) e =
-      let nothing = held.none (sym (ap (λ (y : Batch). y.taken) x.0) ∙ e) in
-      (ap (λ (y : Batch). y.written) x.0 ∙ nothing.0, ap (λ (y : Batch). y.said) x.0 ∙ nothing.1)
-
-  few-behind : (more : List ℕ) → Counts logs (input ++ more) → Counts b.logs (drop b.taken (input ++ more))
-  few-behind more few = omega (arith, few, held.counts, held.inside, length-drop b.taken (input ++ more), length-append input more)
-
-  pub held_on : length after ≡ length out → length told ≡ length said → Held left logs input before unsaid after told r
-  held_on kept kept-said = record {
-    inside = g.inside;
-    room = g.room;
-    room_to_say = g.room_to_say;
-    over = g.over;
-    none = none-on g.moves;
-    lines = λ more bytes. held.lines more bytes ∙ g.same more bytes;
-    says = λ more few. held.says more few ∙ g.says more (few-behind more few);
-    counts = omega (arith, held.counts, g.counts);
-    long = kept ∙ held.long;
-    long-said = kept-said ∙ held.long-said;
-  }
-
-  pub batched : r.taken ≡ b.taken → Batched left logs input b after told
-  batched e =
-      let end = stopped g e in
-      let here : Batched left logs input b out said = record {
-        inside = held.inside;
-        room = held.room;
-        room_to_say = held.room_to_say;
-        over = held.over;
-        lines = held.lines;
-        says = held.says;
-        counts = held.counts;
-        none = held.none;
-        stops = end.2;
-      } in
-      subst (λ (t : List ℕ). Batched left logs input b after t) (sym end.1)
-      (subst (λ (o : List ℕ). Batched left logs input b o said) (sym end.0) here)
-
 -- Behind the end.
 module _ (left n : ℕ) (out : List ℕ) where
-  pub no-rest : n ≤ left → Rest left n out 0 out
-  no-rest h = let none = le-ltb left n h in record { count = rw none; line = rw none }
-
-  pub no_room : left < n → length out < 8222 → Rest left n out 0 out
-  no_room h k = record { count = rw (lt-ltb left n h, lt-leb 8222 (length out) k); line = rw (lt-ltb left n h, lt-leb 8222 (length out) k) }
-
   pub bad-rest : (after : List ℕ) (r : ℕ) → left < n → 8222 ≤ length out → Put out 0 (line_of []) after r → Rest left n out r after
   bad-rest after r h k p =
       let wrote : Put out 0 badlog after r = subst (λ (l : List ℕ). Put out 0 l after r) none-is-bad p in
@@ -391,21 +271,21 @@ module _ (left n : ℕ) (out : List ℕ) where
 
 -- What is said behind the end, where there is room, and where there is none.
 module _ (left logs n : ℕ) (said : List ℕ) where
-  pub no-room-to-say : length said < 60 → Cut left logs n said 0 said
-  no-room-to-say h = record { count = rw (lt-leb 60 (length said) h); line = rw (lt-leb 60 (length said) h) }
-
   module _ (fits : 60 ≤ length said) where
     spoken : (words after : List ℕ) (r : ℕ) → said_at_end left logs n ≡ words → Put said 0 words after r → Cut left logs n said r after
     spoken words after r is p =
         let room = le-leb 60 (length said) fits in
         record { count = rw (room, is) (p.next ∙ zero-add (length words)); line = rw (room, is) p.line }
 
-    pub cut_inside : (after : List ℕ) (r : ℕ) → n < left → Put said 0 (cut_line logs) after r → Cut left logs n said r after
-    cut_inside after r h p = spoken (cut_line logs) after r (rw (lt-ltb n left h)) p
+    pub cut-told : (after : List ℕ) (r m : ℕ) → (n ≡ left → ⊥) → (n < left → m ≡ logs) → (left ≤ n → m ≡ following logs) →
+        Put said 0 (cut_line m) after r → Cut left logs n said r after
+    cut-told after r m apart inside past p = go (ltb n left) refl
+      where
+        go : (t : Bool) → ltb n left ≡ t → Cut left logs n said r after
+        go true e = spoken (cut_line m) after r (rw e (ap cut_line (sym (inside (ltb-true n left e))))) p
+        go false e =
+            let behind = ltb-false n left e in
+            spoken (cut_line m) after r (rw (e, lt-ltb left n (omega arith)) (ap cut_line (sym (past behind)))) p
 
-    pub cut-behind : (after : List ℕ) (r m : ℕ) → left < n → m ≡ following logs → Put said 0 (cut_line m) after r → Cut left logs n said r after
-    cut-behind after r m h is p =
-        spoken (cut_line m) after r (rw (le-ltb n left (omega arith), lt-ltb left n h) (ap cut_line (sym is))) p
-
-    pub not-cut : left ≤ n → n ≤ left → Cut left logs n said 0 said
-    not-cut h k = spoken [] said 0 (rw (le-ltb n left h, le-ltb left n k)) (none said 0)
+    pub not-cut : n ≡ left → Cut left logs n said 0 said
+    not-cut e = spoken [] said 0 (rw (le-ltb n left (omega arith), le-ltb left n (omega arith))) (none said 0)

@@ -1,4 +1,6 @@
 -- A log's line in the part of a buffer from an index on.
+use Rattle.std.specs.Prelude as code
+use Rattle.std.specs.Option.{unwrap_or}
 use Prim.Native.Nat.{ℕ, ◌+◌, ◌-◌, ◌≤◌, ◌<◌}
 use native.Mathlib.Omega.{arith}
 use mathlib.Core.List.{List, [], ◌++◌, append_assoc, append-nil}
@@ -9,8 +11,6 @@ use lib.ListN.{length, get_or, take, drop, length-append, length-drop, drop_of_l
 use lib.Seq.{take_all, drop-drop, length-take-le, take_at}
 use Rattle.rules.specs.Logs.{line_of}
 use Rattle.text.specs.Written.{put, Put, Wrote}
-use Rattle.text.specs.declared.Written.{Written}
-use Rattle.text.specs.declared.Written.TheVariants.{Line, NoRoom}
 use Rattle.log_line.proofs.Longest.{line-fits, always-room}
 
 -- What was put behind the first bytes stands behind them.
@@ -35,34 +35,22 @@ module _ (l : List ℕ) (at : ℕ) (room : at + 8222 ≤ length l) where
       let all : length (drop at l) ≤ length l - at = omega (arith, length-drop at l) in
       drop_of_length-le (drop at l) all
 
-  module _ (log : List ℕ) (bytes : (i : ℕ) → get_or log i 0 < 256) {r : Written} {after : List ℕ} (w : Wrote (line_of log) behind r after) where
-    never : {m : Written} → m ≡ Line (length (line_of log)) → m ≡ NoRoom → ⊥
-    never e k = let z : ◌≡◌ {A = ℕ} 0 1 = cc in omega arith
+  module _ (log : List ℕ) (bytes : (i : ℕ) → get_or log i 0 < 256) {r : code.Option ℕ} {after : List ℕ} (w : Wrote (line_of log) behind r after) where
+    pub long : unwrap_or r 0 ≡ length (line_of log)
+    long = ap (λ (n : code.Option ℕ). unwrap_or n 0) (always-room log bytes enough w)
 
-    pub has_room : r ≡ NoRoom → ⊥
-    has_room e = never (always-room log bytes enough w) e
+    pub ends-inside : length after ≡ length behind → at + unwrap_or r 0 ≤ length (put_mid at (length l - at) l after)
+    ends-inside kept = omega (arith, room, long, line-fits log bytes, same_len_mid at (length l - at) l after kept)
 
-    pub long : {n : ℕ} → r ≡ Line n → n ≡ length (line_of log)
-    long {n} e = cc (always-room log bytes enough w)
-
-    pub short : {n : ℕ} → r ≡ Line n → n ≤ 8222
-    short e = omega (arith, long e, line-fits log bytes)
-
-    same_length : length after ≡ length behind → length (put_mid at (length l - at) l after) ≡ length l
-    same_length kept = same_len_mid at (length l - at) l after kept
-
-    pub ends-inside : {n : ℕ} → length after ≡ length behind → r ≡ Line n → at + n ≤ length (put_mid at (length l - at) l after)
-    ends-inside kept e = omega (arith, room, short e, same_length kept)
-
-    pub put-behind : {n : ℕ} → r ≡ Line n → Put l at (line_of log) (put_mid at (length l - at) l after) (at + n)
+    pub put-behind : Put l at (line_of log) (put_mid at (length l - at) l after) (at + unwrap_or r 0)
     unfolding put
-    put-behind {n} e =
+    put-behind =
         let line : List ℕ = line_of log in
         let fits = le-leb (length line) (length behind) (omega (arith, enough, line-fits log bytes)) in
         let whole : after ≡ line ++ drop (length line) behind = w.line ∙ rw fits in
         let rest : drop (length line) behind ≡ drop (at + length line) l = ap (drop (length line)) is-rest ∙ drop-drop (length line) at l in
         record {
-          next = ap (λ (k : ℕ). at + k) (long e);
+          next = ap (λ (k : ℕ). at + k) long;
           line =
               ap (λ (x : List ℕ). take at l ++ (x ++ post_of at (length l - at) l)) whole ∙
               ap (λ (x : List ℕ). take at l ++ ((line ++ drop (length line) behind) ++ x)) nothing-past ∙

@@ -1,4 +1,6 @@
 -- What a part of a file gives, whatever comes behind it.
+use Rattle.std.specs.Prelude as code
+use Rattle.std.specs.Prelude.{Some, None}
 use Rattle.std.specs.Prelude.{ℕ, suc, ◌+◌, ◌≤◌, ◌<◌, ◌^◌, true, cond, ◌&&◌, List, [], ◌++◌, ◌⊎◌, ◌≡◌, leb, ltb, length, take, drop}
 use Rattle.rules.specs.Bytes.{every, is_byte}
 use Rattle.rules.specs.Lines.{badlog}
@@ -56,7 +58,7 @@ abbrev pub Stops : Batch → List ℕ → ℕ → ℕ → Type 0
 Stops b input room room_to_say =
     (0 < b.left) ⊎ ((room < b.written + 8222) ⊎ ((room_to_say < b.said + 60) ⊎ NotWhole (drop b.taken input)))
 
--- One step: a log more, or nothing more to take.
+-- A log more.
 pub record Goes (b : Batch) (input before said : List ℕ) (r : Batch) (after told : List ℕ) : Type 0 where
   pub inside : r.taken ≤ length input
   pub room : r.written ≤ length after
@@ -65,7 +67,12 @@ pub record Goes (b : Batch) (input before said : List ℕ) (r : Batch) (after to
   pub same : (more : List ℕ) → every is_byte more ≡ true → whole b input before more ≡ whole r input after more
   pub says : (more : List ℕ) → Counts b.logs (drop b.taken (input ++ more)) → whole_said b input said more ≡ whole_said r input told more
   pub counts : r.logs + b.taken ≤ b.logs + r.taken
-  pub moves : (b.taken < r.taken) ⊎ ((r ≡ b) × (after ≡ before) × (told ≡ said) × Stops b input (length before) (length said))
+  pub on : b.taken < r.taken
+
+-- One step: a log more, or nothing more to take, and all stays as it was.
+abbrev pub Steps : Batch → List ℕ → List ℕ → List ℕ → code.Option Batch → List ℕ → List ℕ → Type 0
+Steps b input before said (Some r) after told = Goes b input before said r after told
+Steps b input before said None after told = (after ≡ before) × (told ≡ said) × Stops b input (length before) (length said)
 
 -- The lines of what was taken stand at the front of one buffer, and what is said of it at the front of another; no log that could be taken is left.
 pub record Batched (left logs : ℕ) (input : List ℕ) (r : Batch) (out said : List ℕ) : Type 0 where

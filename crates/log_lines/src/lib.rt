@@ -6,10 +6,10 @@ ghost use Rattle.std.specs.Prelude.{◌+◌, ◌≤◌, ◌<◌, ◌≡◌, leng
 ghost use Rattle.rules.specs.Logs.{line_of};
 ghost use Rattle.text.specs.Written.{Put};
 ghost use Rattle.log_files.specs.Said.{length_line};
-ghost use Rattle.log_lines.specs.Batches.{following, Passed, Over, Goes, Batched, Rest, Cut, Ended};
+ghost use Rattle.log_lines.specs.Batches.{following, Passed, Over, Steps, Batched, Rest, Cut, Ended};
 
-use text::{LONGEST, Written, put_counted, put_item};
-use wire::{part, u32_at};
+use text::{LONGEST, put_counted, put_item};
+use wire::u32_at;
 
 // No log is longer: its header has two bytes for its length.
 const MOST: usize = 65535;
@@ -19,7 +19,7 @@ pub const SAID: usize = 60;
 
 // How much of the input was taken, how many bytes at the front of a buffer are lines, and how many bytes of a log that is too long are still
 // to be passed over. Then how many logs have their line, and how many bytes at the front of another buffer are to be said.
-#[derive(Clone, Copy)]
+#[derive(Clone, Copy, Default)]
 pub struct Batch {
     pub left: usize,
     pub taken: usize,
@@ -35,27 +35,16 @@ pub struct Ending {
     pub said: usize,
 }
 
-// So many bytes are passed over, or as many of them as there are.
-fn passed(left: usize, at: usize, n: usize, written: usize, logs: u64, said: usize) -> Batch
-    requires { at ≤ n }
-    ensures { Passed left at n written logs said result }
+// So many bytes as are left are passed over, or as many of them as there are.
+fn passed(b: Batch, n: usize) -> Batch
+    requires { b.taken ≤ n }
+    ensures { Passed b.left b.taken n b.written b.logs b.said result }
 {
-    if left <= n - at {
-        Batch {
-            left: 0,
-            taken: at + left,
-            written,
-            logs,
-            said,
-        }
-    } else {
-        Batch {
-            left: left - (n - at),
-            taken: n,
-            written,
-            logs,
-            said,
-        }
+    let over = b.left.min(n - b.taken);
+    Batch {
+        left: b.left - over,
+        taken: b.taken + over,
+        ..b
     }
 }
 
@@ -63,11 +52,7 @@ fn passed(left: usize, at: usize, n: usize, written: usize, logs: u64, said: usi
 fn number(logs: u64) -> u64
     ensures { result ≡ following logs }
 {
-    if logs < 18446744073709551615 {
-        logs + 1
-    } else {
-        logs
-    }
+    logs.saturating_add(1)
 }
 
 // A log's line behind the lines that stand already; there is room. The answer is where it ends.
@@ -75,10 +60,7 @@ fn put_line_of(log: &[u8], out: &mut [u8], at: usize) -> usize
     requires { at + 8222 ≤ length out.old }
     ensures { (Put out.old at (line_of log.now) out.new result) × (result ≤ length out.new) }
 {
-    match log_line::line_of(log, &mut out[at..]) {
-        Written::Line(n) => at + n,
-        Written::NoRoom => at,
-    }
+    at + log_line::line_of(log, &mut out[at..]).unwrap_or(0)
 }
 
 // That a log's length is none, behind what is said already; there is room. The answer is where it ends.
@@ -90,46 +72,41 @@ fn put_length(said: &mut [u8], at: usize, log: u64, size: u64) -> usize
     put_item(said, n, b"", size, b"")
 }
 
-// The next log, if it is whole or too long, and there is room for its line.
-fn with_line(b: Batch, input: &[u8], out: &mut [u8], said: &mut [u8]) -> Batch
+// The next log, if it is whole or too long, and there is room for its line and for what is said of it; None where nothing more is taken.
+fn with_line(b: Batch, input: &[u8], out: &mut [u8], said: &mut [u8]) -> Option<Batch>
     requires { (b.taken ≤ length input.now) × (b.written ≤ length out.old) × (b.said ≤ length said.old) × Over b input.now }
-    ensures { Goes b input.now out.old said.old result out.new said.new }
+    ensures { Steps b input.now out.old said.old result out.new said.new }
 {
-    let at = b.taken;
-    let to = b.written;
-    let say = b.said;
-    if b.left > 0 {
-        return b;
+    if b.left > 0 || out.len() - b.written < LONGEST || said.len() - b.said < SAID {
+        return None;
     }
-    if out.len() - to < LONGEST {
-        return b;
-    }
-    if said.len() - say < SAID {
-        return b;
-    }
-    let rest = part(input, at, input.len());
+    let rest = &input[b.taken..];
     if rest.len() < 4 {
-        return b;
+        return None;
     }
     let size = u32_at(rest, 0) as usize;
-    let log = number(b.logs);
+    let logs = number(b.logs);
     if size > MOST {
         // no log: its line is that of any bad one
-        let written = put_line_of(b"", out, to);
-        let told = put_length(said, say, log, size as u64);
-        return passed(4 + size, at, input.len(), written, log, told);
+        let long = Batch {
+            left: 4 + size,
+            taken: b.taken,
+            written: put_line_of(b"", out, b.written),
+            logs,
+            said: put_length(said, b.said, logs, size as u64),
+        };
+        return Some(passed(long, input.len()));
     }
     if size > rest.len() - 4 {
-        return b;
+        return None;
     }
-    let written = put_line_of(part(rest, 4, size), out, to);
-    Batch {
-        left: 0,
-        taken: at + 4 + size,
+    let written = put_line_of(&rest[4..4 + size], out, b.written);
+    Some(Batch {
+        taken: b.taken + 4 + size,
         written,
-        logs: log,
-        said: say,
-    }
+        logs,
+        ..b
+    })
 }
 
 // The lines of the logs that the input holds, at the front of a buffer: as many as there is room for. So many logs have had their lines, and what
@@ -137,54 +114,48 @@ fn with_line(b: Batch, input: &[u8], out: &mut [u8], said: &mut [u8]) -> Batch
 pub fn lines(left: usize, logs: u64, input: &[u8], out: &mut [u8], said: &mut [u8]) -> Batch
     ensures { Batched left logs input.now result out.new said.new }
 {
-    let mut b = passed(left, 0, input.len(), 0, logs, 0);
-    let done = loop {
-        let next = with_line(b, input, out, said);
-        if next.taken == b.taken {
-            break b;
-        }
-        b = next;
+    let first = Batch {
+        left,
+        logs,
+        ..Batch::default()
     };
-    done
+    let mut b = passed(first, input.len());
+    while let Some(next) = with_line(b, input, out, said) {
+        b = next;
+    }
+    b
 }
 
 // Where the input has ended: what is left of it is a bad log, if it is anything.
 fn put_rest(left: usize, n: usize, out: &mut [u8]) -> usize
     ensures { Rest left n out.old result out.new }
 {
-    if n <= left {
-        return 0;
-    }
-    if out.len() < LONGEST {
+    if n <= left || out.len() < LONGEST {
         return 0;
     }
     put_line_of(b"", out, 0)
 }
 
-// And that the input has ended inside a log, if it has.
+// And that the input has ended inside a log, if it has: inside one that is too long, which has its line, or inside the next.
 fn put_cut(left: usize, logs: u64, n: usize, said: &mut [u8]) -> usize
     ensures { Cut left logs n said.old result said.new }
 {
     if said.len() < SAID {
         return 0;
     }
-    if n < left {
-        return put_item(said, 0, b"cut", logs, b"");
+    if n == left {
+        return 0;
     }
-    if left < n {
-        return put_item(said, 0, b"cut", number(logs), b"");
-    }
-    0
+    let log = if n < left { logs } else { number(logs) };
+    put_item(said, 0, b"cut", log, b"")
 }
 
 // Where the input has ended: what is left of it is a bad log, if it is anything, and a log that it has ended in is told.
 pub fn end(left: usize, logs: u64, input: &[u8], out: &mut [u8], said: &mut [u8]) -> Ending
     ensures { Ended left logs input.now out.old said.old result out.new said.new }
 {
-    let written = put_rest(left, input.len(), out);
-    let told = put_cut(left, logs, input.len(), said);
     Ending {
-        written,
-        said: told,
+        written: put_rest(left, input.len(), out),
+        said: put_cut(left, logs, input.len(), said),
     }
 }

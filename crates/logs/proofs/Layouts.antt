@@ -4,9 +4,8 @@ use native.Mathlib.Numerals.{add-one}
 use native.Mathlib.Omega.{arith}
 use mathlib.Core.Bool.{Bool, true, false, cond, ◌&&◌, ◌||◌, and-true}
 use mathlib.Core.List.{List, [], ◌∷◌}
-use mathlib.Core.Logic.{◌⊎◌, inl, inr, ◌≢◌}
 use mathlib.Core.Path.{◌≡◌, refl, sym, ap, ◌∙◌}
-use borrow.Author.Tests.{lt-ltb, eq-eqb, ne_eqb}
+use borrow.Author.Tests.{lt-ltb, ne_eqb}
 use lib.Dec.{leb, ltb, eqb}
 use lib.ListN.{length, get_or, drop, drop_of_length-le}
 use lib.Seq.{drop-cons}
@@ -26,10 +25,6 @@ all_end l i h = rw (drop_of_length-le l h)
 pub all_more : (l : List Bool) (i : ℕ) (p q : Bool) → i < length l → (p && all (drop i l)) ≡ q → ((p && get_or l i false) && all (drop (i + 1) l)) ≡ q
 all_more l i true q h e = sym (all-turn l i (get_or l i false) h refl) ∙ e
 all_more l i false q h e = e
-
--- No test more.
-pub all-last : (l : List Bool) (i : ℕ) (p q : Bool) → length l ≤ i → (p && all (drop i l)) ≡ q → p ≡ q
-all-last l i p q h e = sym (and-true p) ∙ sym (ap (λ (b : Bool). p && b) (all_end l i h)) ∙ e
 
 -- A number that is none of the first k.
 abbrev pub NoneOf : ℕ → ℕ → Type 0

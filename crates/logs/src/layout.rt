@@ -12,7 +12,8 @@ use crate::reader::read_area;
 use exchange::events::{event_at, event_count, event_size};
 use exchange::types::{Event, Form};
 
-// What a call uses, a row of `uses_by_call` of `rules`: the largest value, sub and lengths, whether flag 16 is its own, and whether data may and must be present.
+// What a call uses, a row of `uses_by_call` of `rules`: the largest value, sub and lengths, whether flag 16 is its own, and whether data may and
+// must be present. These are 0 or 1 and no bool: `fields_ok` reckons with them, so that its tests take no branch.
 #[derive(Clone, Copy)]
 pub struct Uses(pub u16, pub u8, pub u8, pub u8, pub u8, pub u8);
 
@@ -45,10 +46,8 @@ pub fn all(tests: &[bool]) -> bool
     ensures { result ≡ all tests.now }
 {
     let mut passed = true;
-    let mut i = 0;
-    while i < tests.len() {
-        passed = passed & tests[i];
-        i += 1;
+    for &test in tests {
+        passed = passed & test;
     }
     passed
 }
@@ -136,10 +135,8 @@ fn events_ok(form: Form, events: &[u8]) -> bool
 {
     let n = event_count(form, events);
     let mut passed = true;
-    let mut i = 0;
-    while i < n {
+    for i in 0..n {
         passed = passed & event_ok(event_at(form, events, i));
-        i += 1;
     }
     passed
 }
@@ -177,12 +174,6 @@ pub fn size_of<'a>(log: &'a [u8], h: Header) -> &'a [u8]
     )
 }
 
-fn less(n: usize, k: usize) -> usize
-    ensures { result ≡ n - k }
-{
-    if n < k { 0 } else { n - k }
-}
-
 // The argument bytes behind address and size: `data_of` of `rules` where flag 32 says that data is present.
 pub fn data_of<'a>(log: &'a [u8], h: Header) -> &'a [u8]
     ensures { result.now ≡ data_bytes (said h) log.now }
@@ -190,7 +181,11 @@ pub fn data_of<'a>(log: &'a [u8], h: Header) -> &'a [u8]
     let header = header_size(h);
     let a = h.address_length as usize;
     let s = h.size_length as usize;
-    read_area(log, header + a + s, less(h.arguments as usize, a + s))
+    read_area(
+        log,
+        header + a + s,
+        (h.arguments as usize).saturating_sub(a + s),
+    )
 }
 
 // Every test of the layout but that the fields suit the call.

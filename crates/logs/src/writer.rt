@@ -15,19 +15,14 @@ use wire::{copy_into, part};
 fn event_bytes(event: Event) -> [u8; 12]
     ensures { result ≡ put_entry addressed (entry_of event) }
 {
+    let [time_1, time_2, time_3, time_4] = event.time.to_be_bytes();
+    let [kind_1, kind_2] = event.kind.to_be_bytes();
+    let [offset_1, offset_2] = event.offset.to_be_bytes();
+    let [size_1, size_2] = event.size.to_be_bytes();
+    let [source_1, source_2] = event.source.to_be_bytes();
     [
-        (event.time / 65536 / 256) as u8,
-        (event.time / 65536 % 256) as u8,
-        (event.time % 65536 / 256) as u8,
-        (event.time % 65536 % 256) as u8,
-        (event.kind / 256) as u8,
-        (event.kind % 256) as u8,
-        (event.offset / 256) as u8,
-        (event.offset % 256) as u8,
-        (event.size / 256) as u8,
-        (event.size % 256) as u8,
-        (event.source / 256) as u8,
-        (event.source % 256) as u8,
+        time_1, time_2, time_3, time_4, kind_1, kind_2, offset_1, offset_2, size_1, size_2,
+        source_1, source_2,
     ]
 }
 
@@ -43,58 +38,57 @@ pub fn put_event(buffer: &mut [u8], at: usize, form: Form, event: Event) -> bool
 fn header_bytes(header: Header) -> [u8; 37]
     ensures { result ≡ put_header_in addressed (said header) }
 {
-    // each read once, as in `areas_ok`
-    let version = header.version;
-    let value = header.value;
-    let arguments = header.arguments;
-    let arguments_at = header.arguments_at;
-    let events = header.events;
-    let events_at = header.events_at;
-    let replies = header.replies;
-    let replies_at = header.replies_at;
-    let total = header.total;
-    let p2 = header.p2;
-    let star = header.star;
-    let overall = header.overall;
-    let listens = header.listens;
+    let [version_1, version_2] = header.version.to_be_bytes();
+    let [value_1, value_2] = header.value.to_be_bytes();
+    let [listens_1, listens_2] = header.listens.to_be_bytes();
+    let [arguments_1, arguments_2] = header.arguments.to_be_bytes();
+    let [arguments_at_1, arguments_at_2] = header.arguments_at.to_be_bytes();
+    let [events_1, events_2] = header.events.to_be_bytes();
+    let [events_at_1, events_at_2] = header.events_at.to_be_bytes();
+    let [replies_1, replies_2] = header.replies.to_be_bytes();
+    let [replies_at_1, replies_at_2] = header.replies_at.to_be_bytes();
+    let [total_1, total_2] = header.total.to_be_bytes();
+    let [p2_1, p2_2, p2_3, p2_4] = header.p2.to_be_bytes();
+    let [star_1, star_2, star_3, star_4] = header.star.to_be_bytes();
+    let [overall_1, overall_2, overall_3, overall_4] = header.overall.to_be_bytes();
     [
-        (version / 256) as u8,
-        (version % 256) as u8,
+        version_1,
+        version_2,
         header.call,
         header.flags,
-        (value / 256) as u8,
-        (value % 256) as u8,
+        value_1,
+        value_2,
         header.sub,
         header.address_length,
         header.size_length,
-        (listens / 256) as u8,
-        (listens % 256) as u8,
-        (arguments / 256) as u8,
-        (arguments % 256) as u8,
-        (arguments_at / 256) as u8,
-        (arguments_at % 256) as u8,
-        (events / 256) as u8,
-        (events % 256) as u8,
-        (events_at / 256) as u8,
-        (events_at % 256) as u8,
-        (replies / 256) as u8,
-        (replies % 256) as u8,
-        (replies_at / 256) as u8,
-        (replies_at % 256) as u8,
-        (total / 256) as u8,
-        (total % 256) as u8,
-        (p2 / 65536 / 256) as u8,
-        (p2 / 65536 % 256) as u8,
-        (p2 % 65536 / 256) as u8,
-        (p2 % 65536 % 256) as u8,
-        (star / 65536 / 256) as u8,
-        (star / 65536 % 256) as u8,
-        (star % 65536 / 256) as u8,
-        (star % 65536 % 256) as u8,
-        (overall / 65536 / 256) as u8,
-        (overall / 65536 % 256) as u8,
-        (overall % 65536 / 256) as u8,
-        (overall % 65536 % 256) as u8,
+        listens_1,
+        listens_2,
+        arguments_1,
+        arguments_2,
+        arguments_at_1,
+        arguments_at_2,
+        events_1,
+        events_2,
+        events_at_1,
+        events_at_2,
+        replies_1,
+        replies_2,
+        replies_at_1,
+        replies_at_2,
+        total_1,
+        total_2,
+        p2_1,
+        p2_2,
+        p2_3,
+        p2_4,
+        star_1,
+        star_2,
+        star_3,
+        star_4,
+        overall_1,
+        overall_2,
+        overall_3,
+        overall_4,
     ]
 }
 

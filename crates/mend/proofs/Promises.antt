@@ -12,6 +12,10 @@ use borrow.Author.Tests.{le-leb}
 use Rattle.rules.specs.Bytes.{every, is_byte}
 use Rattle.rules.specs.Logs.{header_size, form_in, header_of, reply_bytes}
 use Rattle.wire.specs.Buffers.{with}
+use Rattle.wire.specs.Refusing.{refusal_number}
+use Rattle.wire.specs.declared.refusal.Refusal.{Refusal}
+use Rattle.wire.proofs.Refusals.{same-refusal}
+use Rattle.std.specs.Prelude.{Result, Ok, Err}
 use Rattle.logs.specs.Layout.{said}
 use Rattle.logs.proofs.Layouts.{said-once}
 use Rattle.mending.specs.Mend as mending
@@ -19,8 +23,8 @@ use Rattle.mending.specs.Mend.{Report, report, readable, mend}
 use Rattle.mending.specs.Promises.{Taken, entries_of, Run, Kept}
 use Rattle.mending.proofs.Promises as mended
 use Rattle.mending.proofs.OnlyCut.{only-cut}
-use Rattle.mend.specs.declared.Mended as Code
-use Rattle.mend.specs.declared.Mended.TheVariants.{Log, Refused, NoRoom}
+use Rattle.mend.specs.declared.MendError.{MendError}
+use Rattle.mend.specs.declared.MendError.TheVariants.{Refused, NoRoom}
 use Rattle.mend.specs.declared.Report as Told
 use Rattle.mend.specs.Answered.{report_of, log, refused, no_room, answer_of, answered, left, Mends}
 
@@ -34,26 +38,33 @@ same-report a b e =
     let new = said-once a.new b.new (ap (λ (r : Report). r.new) e) in
     λ i. record { old = old i; new = new i }
 
-same_answer : (a b : Code.Mended) → answer_of a ≡ answer_of b → a ≡ b
-same_answer (Log n r) (Log m s) e = let long : n ≡ m = cc in let told : report_of r ≡ report_of s = cc in ap₂ Log long (same-report r s told)
-same_answer (Log n r) (Refused m) e = never (cc)
-same_answer (Log n r) NoRoom e = never (cc)
-same_answer (Refused n) (Log m s) e = never (cc)
-same_answer (Refused n) (Refused m) e = let number : n ≡ m = cc in ap Refused number
-same_answer (Refused n) NoRoom e = never (cc)
-same_answer NoRoom (Log m s) e = never (cc)
-same_answer NoRoom (Refused m) e = never (cc)
-same_answer NoRoom NoRoom e = refl
+-- What is answered: how many bytes the mended log is and the report, or why there is none.
+abbrev pub Answered : Type 0
+Answered = Result (ℕ × Told.Report) MendError
+
+same_answer : (a b : Answered) → answer_of a ≡ answer_of b → a ≡ b
+same_answer (Ok x) (Ok y) e = let long : x.0 ≡ y.0 = cc in let told : report_of x.1 ≡ report_of y.1 = cc in let same = same-report x.1 y.1 told in λ i. Ok (long i, same i)
+same_answer (Ok x) (Err (Refused r)) e = never (cc)
+same_answer (Ok x) (Err NoRoom) e = never (cc)
+same_answer (Err (Refused r)) (Ok y) e = never (cc)
+same_answer (Err (Refused r)) (Err (Refused s)) e = let number : refusal_number r ≡ refusal_number s = cc in ap (λ (x : Refusal). Err (Refused x)) (same-refusal r s number)
+same_answer (Err (Refused r)) (Err NoRoom) e = never (cc)
+same_answer (Err NoRoom) (Ok y) e = never (cc)
+same_answer (Err NoRoom) (Err (Refused s)) e = never (cc)
+same_answer (Err NoRoom) (Err NoRoom) e = refl
 
 module _ (l before : List ℕ) where
   -- At most one answer and one buffer fit.
-  pub unique : (r s : Code.Mended) (a b : List ℕ) → Mends l before r a → Mends l before s b → (r ≡ s) × (a ≡ b)
+  pub unique : (r s : Answered) (a b : List ℕ) → Mends l before r a → Mends l before s b → (r ≡ s) × (a ≡ b)
   unique r s a b p q = (same_answer r s (p.answer ∙ sym q.answer), p.buffer ∙ sym q.buffer)
 
   -- "output untouched"
-  pub untouched : (n : ℕ) (after : List ℕ) → Mends l before (Refused n) after → (mend l ≡ mending.refused n) × (after ≡ before)
-  untouched n after p = go (mend l) p.answer p.buffer
+  pub untouched : (r : Refusal) (after : List ℕ) → Mends l before (Err (Refused r)) after → (mend l ≡ mending.refused (refusal_number r)) × (after ≡ before)
+  untouched r after p = go (mend l) p.answer p.buffer
     where
+      n : ℕ
+      n = refusal_number r
+
       go : (m : mending.Mended) → refused n ≡ answered m (length before) → after ≡ left m before → (m ≡ mending.refused n) × (after ≡ before)
       go (mending.refused k) e b = (let same : k ≡ n = cc in ap mending.refused same, b)
       go (mending.mended out r) e b = with-room (leb (length out) (length before)) e
@@ -68,7 +79,7 @@ module _ (l before : List ℕ) where
     pub long : length (take n after) ≡ n
     pub rest : drop n after ≡ drop n before
 
-  pub stands : (n : ℕ) (told : Told.Report) (after : List ℕ) → Mends l before (Log n told) after → Stands n told after
+  pub stands : (n : ℕ) (told : Told.Report) (after : List ℕ) → Mends l before (Ok (n, told)) after → Stands n told after
   unfolding with
   stands n told after p = go (mend l) refl p.answer p.buffer
     where
@@ -92,7 +103,7 @@ module _ (l before : List ℕ) where
       go (mending.mended out r) m e b = there out r m b (leb (length out) (length before)) refl e
 
   -- A buffer as long as the damaged log has room for the mended one, and so has one of 65,535 bytes.
-  pub room-enough : every is_byte l ≡ true → (length l ≤ length before) ⊎ (65535 ≤ length before) → (after : List ℕ) → Mends l before NoRoom after → ⊥
+  pub room-enough : every is_byte l ≡ true → (length l ≤ length before) ⊎ (65535 ≤ length before) → (after : List ℕ) → Mends l before (Err NoRoom) after → ⊥
   room-enough bytes big after p = go (mend l) refl p.answer
     where
       go : (m : mending.Mended) → mend l ≡ m → no_room ≡ answered m (length before) → ⊥
@@ -102,7 +113,7 @@ module _ (l before : List ℕ) where
           let fits : length out ≤ length before = ⊎_elim (λ z. omega arith) (λ z. omega arith) big in
           never (let z : no_room ≡ log (length out) r = rw (le-leb (length out) (length before) fits) at e in cc)
 
-module _ (l before : List ℕ) (n : ℕ) (told : Told.Report) (after : List ℕ) (p : Mends l before (Log n told) after) where
+module _ (l before : List ℕ) (n : ℕ) (told : Told.Report) (after : List ℕ) (p : Mends l before (Ok (n, told)) after) where
   abbrev so : Stands l before n told after
   so = stands l before n told after p
 
@@ -122,7 +133,7 @@ module _ (l before : List ℕ) (n : ℕ) (told : Told.Report) (after : List ℕ)
         (omega arith, omega arith)
 
     -- "mending twice equals mending once": into any buffer with room for it.
-    pub twice : (out : List ℕ) (m : ℕ) (again : Told.Report) (then : List ℕ) → Mends (take n after) out (Log m again) then
+    pub twice : (out : List ℕ) (m : ℕ) (again : Told.Report) (then : List ℕ) → Mends (take n after) out (Ok (m, again)) then
         → (m ≡ n) × (take m then ≡ take n after) × (report_of again ≡ report (said told.new) (said told.new))
     twice out m again then q =
         let once = mended.twice l (take n after) (report_of told) bytes so.is in
@@ -133,7 +144,7 @@ module _ (l before : List ℕ) (n : ℕ) (told : Told.Report) (after : List ℕ)
         (sym s.long ∙ ap (λ (x : List ℕ). length x) log ∙ so.long, log, new)
 
 -- "A log that `udslog` neither calls bad nor refuses comes out byte for byte the same"
-pub unchanged : (l before : List ℕ) → Taken l → (n : ℕ) (told : Told.Report) (after : List ℕ) → Mends l before (Log n told) after
+pub unchanged : (l before : List ℕ) → Taken l → (n : ℕ) (told : Told.Report) (after : List ℕ) → Mends l before (Ok (n, told)) after
     → (take n after ≡ l) × (report_of told ≡ report (header_of l) (header_of l))
 unchanged l before t n told after p =
     let same = sym (stands l before n told after p).is ∙ mended.unchanged l t in
@@ -149,7 +160,7 @@ Front l x r =
     (reply_bytes (header_of x) x ≡ take r.new.replies (reply_bytes (header_of l) l))
 
 pub only-a-cut : (l before : List ℕ) → Taken l → (cut : ℕ) → header_size (form_in (header_of l)) + (header_of l).arguments ≤ cut → (n : ℕ) (told : Told.Report) (after : List ℕ)
-    → Mends (take cut l) before (Log n told) after → Front l (take n after) (report_of told)
+    → Mends (take cut l) before (Ok (n, told)) after → Front l (take n after) (report_of told)
 only-a-cut l before t cut behind n told after p =
     let s = (only-cut l t cut).behind behind in
     let same = sym s.is ∙ (stands (take cut l) before n told after p).is in

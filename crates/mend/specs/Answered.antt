@@ -1,11 +1,12 @@
 -- What is answered of a damaged log, and what then stands in the lent buffer.
-use Rattle.std.specs.Prelude.{ℕ, cond, List, ◌≡◌, leb, length}
+use Rattle.std.specs.Prelude.{ℕ, cond, List, ◌≡◌, leb, length, Result, Ok, Err}
 use Rattle.wire.specs.Buffers.{with}
+use Rattle.wire.specs.Refusing.{refusal_number}
 use Rattle.logs.specs.Layout.{said}
 use Rattle.mending.specs.Mend as mending
 use Rattle.mending.specs.Mend.{mend}
-use Rattle.mend.specs.declared.Mended as Code
-use Rattle.mend.specs.declared.Mended.TheVariants.{Log, Refused, NoRoom}
+use Rattle.mend.specs.declared.MendError.{MendError}
+use Rattle.mend.specs.declared.MendError.TheVariants.{Refused, NoRoom}
 use Rattle.mend.specs.declared.Report as Told
 
 abbrev pub report_of : Told.Report → mending.Report
@@ -17,10 +18,10 @@ pub data Answer : Type 0 where
   refused : ℕ → Answer
   no_room : Answer
 
-abbrev pub answer_of : Code.Mended → Answer
-answer_of (Log n r) = log n (report_of r)
-answer_of (Refused n) = refused n
-answer_of NoRoom = no_room
+abbrev pub answer_of : Result (ℕ × Told.Report) MendError → Answer
+answer_of (Ok x) = log x.0 (report_of x.1)
+answer_of (Err (Refused r)) = refused (refusal_number r)
+answer_of (Err NoRoom) = no_room
 
 -- With so much room.
 abbrev pub answered : mending.Mended → ℕ → Answer
@@ -32,6 +33,6 @@ abbrev pub left : mending.Mended → List ℕ → List ℕ
 left (mending.refused n) out = out
 left (mending.mended l r) out = with out 0 l
 
-pub record Mends (damaged before : List ℕ) (r : Code.Mended) (after : List ℕ) : Type 0 where
+pub record Mends (damaged before : List ℕ) (r : Result (ℕ × Told.Report) MendError) (after : List ℕ) : Type 0 where
   pub answer : answer_of r ≡ answered (mend damaged) (length before)
   pub buffer : after ≡ left (mend damaged) before

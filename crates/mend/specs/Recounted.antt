@@ -1,16 +1,17 @@
 -- A header with other counts, for whoever writes a log from its parts.
+use Rattle.std.specs.Prelude as code
+use Rattle.std.specs.Prelude.{Some, None}
 use Rattle.std.specs.Prelude.{ℕ, ◌+◌, ◌*◌, cond, leb}
 use Rattle.std.proofs.Math.Option.{Option, none, some}
 use Rattle.rules.specs.Events.{event_size}
 use Rattle.rules.specs.Logs.{Header, header_size, form_in}
 use Rattle.logs.specs.Layout.{said}
 use Rattle.mending.specs.Mend.{corrected}
-use Rattle.mend.specs.declared.Recounted as Code
-use Rattle.mend.specs.declared.Recounted.TheVariants as Is
+use Rattle.logs.specs.declared.header.Header as Code
 
-abbrev pub header_of : Code.Recounted → Option Header
-header_of (Is.Header h) = some (said h)
-header_of Is.TooLong = none
+abbrev pub header_of : code.Option Code.Header → Option Header
+header_of (Some h) = some (said h)
+header_of None = none
 
 -- A total is a number of two bytes.
 abbrev pub recounted : Header → ℕ → ℕ → Option Header

@@ -1,13 +1,13 @@
 // Request Ten, "Mend a damaged log": the mended log is written into a lent buffer. What it is, is `mend` of `mending`.
 #![tactic(auto)]
 
-ghost use Rattle.std.specs.Prelude.{◌+◌, ◌*◌, ◌≤◌, ◌++◌, ◌≡◌, length, take};
+ghost use Rattle.std.specs.Prelude.{◌+◌, ◌*◌, ◌≤◌, ◌≡◌, length, take};
 ghost use Rattle.rules.specs.Events.{event_size, entries};
 ghost use Rattle.rules.specs.Logs.{header_size, form_in};
-ghost use Rattle.wire.specs.Buffers.{Copied};
+ghost use Rattle.wire.specs.Buffers.{with};
 ghost use Rattle.exchange.specs.Meaning.{form_of, entry_of};
 ghost use Rattle.logs.specs.Layout.{said};
-ghost use Rattle.mending.specs.Mend.{arguments_in, events_in, left_in, goes_on, run, corrected, mended_header, kept_bytes, mended_log, headed, argued};
+ghost use Rattle.mending.specs.Mend.{arguments_in, events_in, left_in, goes_on, run, corrected, mended_header, mended_log, headed, argued};
 ghost use Rattle.mend.specs.Answered.{Mends};
 ghost use Rattle.mend.specs.Recounted.{header_of, recounted};
 
@@ -15,8 +15,9 @@ use exchange::events::{event_at, event_count, event_size};
 use exchange::types::{Event, Form};
 use logs::header::{Header, form_in, header_size};
 use logs::reader::{read_area, read_header};
-use logs::writer::{put_event, put_header};
-use wire::{copy_into, part};
+use logs::writer::put_header;
+use wire::part;
+use wire::refusal::Refusal;
 
 // "bytes past 65,535 are not read"
 const MOST_READ: usize = 65535;
@@ -31,12 +32,10 @@ pub struct Report {
     pub new: Header,
 }
 
+// Why nothing is written: a refusal, or a buffer that is shorter than the mended log.
 #[derive(Clone, Copy)]
-pub enum Mended {
-    // how many bytes at the buffer's front are the mended log
-    Log(usize, Report),
-    Refused(u8),
-    // the buffer is shorter than the mended log, and is left as it was
+pub enum MendError {
+    Refused(Refusal),
     NoRoom,
 }
 
@@ -72,37 +71,25 @@ fn left_in<'a>(log: &'a [u8], h: Header) -> &'a [u8]
 fn goes_on(last: u32, left: usize, event: Event) -> bool
     ensures { result ≡ goes_on last left (entry_of event) }
 {
-    if event.kind > 3 {
-        return false;
-    }
-    if event.time < last {
-        return false;
-    }
-    if event.kind != 0 {
-        return true;
-    }
-    event.offset as usize + event.size as usize <= left
+    event.kind <= 3
+        && event.time >= last
+        && (event.kind != 0 || event.offset as usize + event.size as usize <= left)
 }
 
 // "the longest run of leading events": how many are kept.
 fn kept(form: Form, events: &[u8], left: usize) -> usize
     ensures { result ≡ run 0 left (take 512 (entries (form_of form) events.now)) }
 {
-    let mut n = event_count(form, events);
-    if n > MOST_EVENTS {
-        n = MOST_EVENTS;
-    }
+    let n = event_count(form, events).min(MOST_EVENTS);
     let mut last = 0;
-    let mut i = 0;
-    while i < n {
+    for i in 0..n {
         let event = event_at(form, events, i);
         if !goes_on(last, left, event) {
             return i;
         }
         last = event.time;
-        i += 1;
     }
-    i
+    n
 }
 
 // "with corrected counts and offsets", which fit since the mended log is no longer than the damaged one.
@@ -114,112 +101,62 @@ fn corrected(h: Header, events: usize, replies: usize) -> Header
     let events_at = arguments_at + h.arguments as usize;
     let replies_at = events_at + events * event_size(form_in(h));
     Header {
-        version: h.version,
-        call: h.call,
-        flags: h.flags,
-        value: h.value,
-        sub: h.sub,
-        address_length: h.address_length,
-        size_length: h.size_length,
-        listens: h.listens,
-        arguments: h.arguments,
         arguments_at: arguments_at as u16,
         events: events as u16,
         events_at: events_at as u16,
         replies: replies as u16,
         replies_at: replies_at as u16,
         total: (replies_at + replies) as u16,
-        p2: h.p2,
-        star: h.star,
-        overall: h.overall,
+        ..h
     }
 }
 
-// The header of a log with so many events and reply bytes; or the log would be longer than a total can say.
-#[derive(Clone, Copy)]
-pub enum Recounted {
-    Header(Header),
-    TooLong,
-}
-
-pub fn recount(h: Header, events: usize, replies: usize) -> Recounted
+pub fn recount(h: Header, events: usize, replies: usize) -> Option<Header>
     ensures { header_of result ≡ recounted (said h) events replies }
 {
-    if events > MOST_READ {
-        return Recounted::TooLong;
-    }
-    if replies > MOST_READ {
-        return Recounted::TooLong;
+    if events > MOST_READ || replies > MOST_READ {
+        return None;
     }
     let size = event_size(form_in(h));
     let arguments = h.arguments as usize;
     if header_size(h) + arguments + events * size + replies > MOST_READ {
-        return Recounted::TooLong;
+        return None;
     }
-    Recounted::Header(corrected(h, events, replies))
+    Some(corrected(h, events, replies))
 }
 
-// Puts the first n events into `out` at index `at`. Where they do not fit, nothing changes and the answer is false.
-fn put_events(out: &mut [u8], at: usize, form: Form, events: &[u8], n: usize) -> bool
-    requires { n * event_size (form_of form) ≤ length events.now }
-    ensures { Copied out.old at (take (n * event_size (form_of form)) events.now) result out.new }
+// The header that is written in the old one's place.
+fn mended_header(log: &[u8], old: Header) -> Header
+    requires whole { header_size (form_in (said old)) + old.arguments ≤ length log.now }
+    requires short { length log.now ≤ 65535 }
+    ensures { said result ≡ mended_header (said old) log.now }
 {
-    let size = event_size(form);
-    if at > out.len() {
-        return false;
-    }
-    if n * size > out.len() - at {
-        return false;
-    }
-    let mut i = 0;
-    while i < n {
-        put_event(out, at + i * size, form, event_at(form, events, i));
-        i += 1;
-    }
-    true
+    let left = left_in(log, old).len();
+    let events = kept(form_in(old), events_in(log, old), left);
+    corrected(old, events, left)
 }
 
-// Puts the kept events and behind them what is left of the reply area, each where the new header says. The last goes first: where it does
-// not fit, nothing has changed yet, and the answer is false.
-fn put_run(out: &mut [u8], log: &[u8], old: Header, new: Header) -> bool
-    requires { said new ≡ mended_header (said old) log.now }
-    ensures { Copied out.old new.events_at (kept_bytes (said old) log.now ++ left_in (said old) log.now) result out.new }
-{
-    let events_at = new.events_at as usize;
-    let replies_at = new.replies_at as usize;
-    let events = new.events as usize;
-    if !copy_into(out, replies_at, left_in(log, old)) {
-        return false;
-    }
-    put_events(out, events_at, form_in(old), events_in(log, old), events)
-}
-
-// Puts the mended log at the front of `out`, the last part first.
-fn put_log(out: &mut [u8], log: &[u8], old: Header, new: Header) -> bool
-    requires { (said new ≡ mended_header (said old) log.now) × (header_size (form_in (said old)) + old.arguments ≤ length log.now) }
-    ensures { Copied out.old 0 (mended_log (said old) log.now) result out.new }
+// Puts the mended log at the front of `out`, which has room for it: the header, the arguments, the kept events, and what is left of the reply area.
+fn put_log(out: &mut [u8], log: &[u8], old: Header, new: Header)
+    requires new { said new ≡ mended_header (said old) log.now }
+    requires whole { header_size (form_in (said old)) + old.arguments ≤ length log.now }
+    requires room { new.total ≤ length out.old }
+    ensures { out.new ≡ with out.old 0 (mended_log (said old) log.now) }
 {
     let arguments_at = new.arguments_at as usize;
-    if !put_run(out, log, old, new) {
-        return false;
-    }
-    if !copy_into(out, arguments_at, arguments_in(log, old)) {
-        return false;
-    }
-    put_header(out, 0, new)
+    let events_at = new.events_at as usize;
+    let replies_at = new.replies_at as usize;
+    put_header(out, 0, new);
+    out[arguments_at..events_at].copy_from_slice(arguments_in(log, old));
+    out[events_at..replies_at].copy_from_slice(&events_in(log, old)[..replies_at - events_at]);
+    out[replies_at..new.total as usize].copy_from_slice(left_in(log, old));
 }
 
 // "18 header shorter than its version's size or of unknown version or call"
 fn headed(log: &[u8], h: Header) -> bool
     ensures { result ≡ headed (said h) log.now }
 {
-    if header_size(h) > log.len() {
-        return false;
-    }
-    match h.version {
-        1 | 2 => h.call <= 15,
-        _ => false,
-    }
+    header_size(h) <= log.len() && matches!(h.version, 1 | 2) && h.call <= 15
 }
 
 // "19 argument bytes not whole"
@@ -229,23 +166,23 @@ fn argued(log: &[u8], h: Header) -> bool
     header_size(h) + h.arguments as usize <= log.len()
 }
 
-// Writes the mended log at the front of `out`, whose rest keeps its bytes. "18 first; output untouched"
-pub fn mend(log: &[u8], out: &mut [u8]) -> Mended
+// Writes the mended log at the front of `out`, whose rest keeps its bytes; answers how many bytes it is, and the report. "18 first; output untouched"
+#[tactic(auto, unfolding(mending::specs::Mend::mend))]
+pub fn mend(log: &[u8], out: &mut [u8]) -> Result<(usize, Report), MendError>
     ensures { Mends log.now out.old result out.new }
 {
     let read = part(log, 0, MOST_READ);
     let old = read_header(read);
     if !headed(read, old) {
-        return Mended::Refused(18);
+        return Err(MendError::Refused(Refusal::Header));
     }
     if !argued(read, old) {
-        return Mended::Refused(19);
+        return Err(MendError::Refused(Refusal::Arguments));
     }
-    let left = left_in(read, old).len();
-    let events = kept(form_in(old), events_in(read, old), left);
-    let new = corrected(old, events, left);
-    if !put_log(out, read, old, new) {
-        return Mended::NoRoom;
+    let new = mended_header(read, old);
+    if out.len() < new.total as usize {
+        return Err(MendError::NoRoom);
     }
-    Mended::Log(new.total as usize, Report { old, new })
+    put_log(out, read, old, new);
+    Ok((new.total as usize, Report { old, new }))
 }

@@ -1,47 +1,20 @@
 -- The numbers of an answer: a place inside the lent reply bytes is as long as the bytes that stand there.
 use Prim.Native.Nat.{ℕ, ◌+◌, ◌≤◌}
 use native.Mathlib.Omega.{arith}
-use mathlib.Core.Path.{◌≡◌, refl, sym, ◌∙◌}
-use mathlib.Core.List.{List, [], ◌∷◌}
+use mathlib.Core.Path.{◌≡◌, sym, ◌∙◌}
+use mathlib.Core.List.{List, []}
 use lib.ListN.{length, replicate, length-replicate, length-take, length-drop}
-use Rattle.exchange.specs.Meaning.{part_of, outcome_of, deviation_number, deviation_of}
+use Rattle.exchange.specs.Meaning.{part_of}
 use Rattle.exchange.specs.Places.{Inside, InsideOutcome}
 use Rattle.exchange.specs.declared.types.Place.{Place}
 use Rattle.exchange.specs.declared.types.Outcome.{Outcome}
 use Rattle.exchange.specs.declared.types.Outcome.TheVariants as outcome
 use Rattle.exchange.specs.declared.types.Outcome.TheVariants.{PositiveResponse}
 use Rattle.calls.specs.declared.Answered.{Answered}
-use Rattle.numbers.specs.Numbers.{values_of, plain, Tells}
-use Rattle.exchange.specs.declared.error.ProtocolDeviation.{ProtocolDeviation}
-use Rattle.exchange.specs.declared.error.ProtocolDeviation.TheVariants as protocol
-use Rattle.exchange.specs.declared.error.Maximum.{Maximum}
-use Rattle.rules.specs.Answers.{fault}
+use Rattle.numbers.specs.Numbers.{Tells}
 
 pub long : (replies : List ℕ) (p : Place) → Inside replies p → length (part_of replies p).bytes ≡ p.len
 long replies p h = simp (length-take, length-drop) (omega arith)
-
-pub placed : (replies : List ℕ) (o : Outcome) {p : Place} → o ≡ PositiveResponse p → InsideOutcome replies o
-    → record { outcome = 0; detail = 0; least = 0; most = 0; at = p.at; len = p.len } ≡ values_of (outcome_of replies o)
-placed replies o {p} e h = rw (e, long replies p (rw e at h))
-
--- Every deviation but 8 has its number alone.
-pub alone : (d : ProtocolDeviation) → ((least : ℕ) (most : Maximum) → d ≡ protocol.InvalidResponseLength least most → ⊥)
-    → plain 6 (deviation_number d) ≡ values_of (fault (deviation_of d))
-alone protocol.InvalidServiceId h = refl
-alone protocol.InvalidRequestServiceId h = refl
-alone protocol.InvalidSubFunction h = refl
-alone protocol.UnexpectedPositiveResponse h = refl
-alone protocol.InvalidDataIdentifier h = refl
-alone protocol.InvalidRoutineIdentifier h = refl
-alone protocol.InvalidBlockSequenceCounter h = refl
-alone (protocol.InvalidResponseLength least most) h = absurd (h least most refl)
-alone protocol.InvalidLengthFormat h = refl
-alone protocol.InvalidLengthFormatIdentifier h = refl
-alone protocol.InvalidMaxNumberOfBlockLength h = refl
-alone protocol.InvalidAddressAndLengthFormatIdentifier h = refl
-alone protocol.InvalidMemoryAddress h = refl
-alone protocol.InvalidMemorySize h = refl
-alone protocol.InvalidMemoryRecordLength h = refl
 
 -- Some reply bytes are long enough for the place of an outcome, and for one more.
 abbrev pub needs : Outcome → ℕ

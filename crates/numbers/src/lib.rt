@@ -3,12 +3,12 @@
 
 ghost use Rattle.std.specs.Prelude.{List, ◌≡◌, ℕ};
 ghost use Rattle.rules.specs.Answers.{fault};
-ghost use Rattle.exchange.specs.Meaning.{outcome_of, deviation_of, maximum_of};
+ghost use Rattle.exchange.specs.Meaning.{outcome_of, deviation_of, option_of};
 ghost use Rattle.exchange.specs.Places.{InsideOutcome};
 ghost use Rattle.numbers.specs.Numbers.{upper, plain, values_of, Tells};
 
 use calls::Answered;
-use exchange::error::{Fault, Maximum, ProtocolDeviation, deviation_number};
+use exchange::error::{Fault, ProtocolDeviation};
 use exchange::types::Outcome;
 
 // An outcome's number and values, deviation 8's bounds, and the place of a positive's data.
@@ -35,12 +35,12 @@ fn plain(outcome: u64, detail: u64) -> Values
     }
 }
 
-fn upper(maximum: Maximum) -> u64
-    ensures { result ≡ upper (maximum_of maximum) }
+fn upper(maximum: Option<usize>) -> u64
+    ensures { result ≡ upper (option_of maximum) }
 {
     match maximum {
-        Maximum::None => 18446744073709551615,
-        Maximum::At(most) => most as u64,
+        None => u64::MAX,
+        Some(most) => most as u64,
     }
 }
 
@@ -50,14 +50,11 @@ fn deviation(deviation: ProtocolDeviation) -> Values
 {
     match deviation {
         ProtocolDeviation::InvalidResponseLength(least, most) => Values {
-            outcome: 6,
-            detail: 8,
             least: least as u64,
             most: upper(most),
-            at: 0,
-            len: 0,
+            ..plain(6, 8)
         },
-        _ => plain(6, deviation_number(deviation) as u64),
+        _ => plain(6, u8::from(deviation) as u64),
     }
 }
 
@@ -66,12 +63,9 @@ fn told(outcome: Outcome) -> Values
 {
     match outcome {
         Outcome::PositiveResponse(place) => Values {
-            outcome: 0,
-            detail: 0,
-            least: 0,
-            most: 0,
             at: place.at as u64,
             len: place.len as u64,
+            ..plain(0, 0)
         },
         Outcome::Suppressed => plain(1, 0),
         Outcome::NegativeResponse(code) => plain(2, code as u64),
@@ -83,7 +77,7 @@ fn told(outcome: Outcome) -> Values
             Fault::InvalidResponseLength => plain(7, 0),
             Fault::BlockLengthOverflow => plain(8, 0),
         },
-        Outcome::Refused(number) => plain(9, number as u64),
+        Outcome::Refused(refusal) => plain(9, u8::from(refusal) as u64),
         Outcome::PendingLimit => plain(10, 0),
     }
 }
@@ -92,10 +86,9 @@ pub fn numbers(x: Answered) -> [u64; 15]
     ensures { Tells x result }
 {
     let answer = x.answer;
-    let outcome = answer.outcome;
     let reply = answer.reply;
     let timing = x.timing;
-    let v = told(outcome);
+    let v = told(answer.outcome);
     [
         v.outcome,
         v.detail,

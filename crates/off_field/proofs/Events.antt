@@ -1,25 +1,23 @@
 -- One event more; and the line of an event with a field that is off.
-use Prim.Native.Nat.{ℕ, zero, suc, ◌+◌, ◌-◌, ◌*◌, ◌/◌, ◌≤◌, ◌<◌}
+use Prim.Native.Nat.{ℕ, suc, ◌+◌, ◌-◌, ◌*◌, ◌/◌, ◌≤◌, ◌<◌}
 use native.Mathlib.Numerals.{add-one}
 use native.Mathlib.Omega.{arith}
 use mathlib.Core.Bool.{Bool, true, false, cond, ◌&&◌, ◌||◌, false≢true}
-use mathlib.Core.List.{List, [], ◌∷◌, ◌++◌, append_assoc}
-use mathlib.Core.Option.{Option, none, some}
+use mathlib.Core.List.{List, [], ◌++◌, append_assoc}
+use mathlib.Core.Option.{none, some}
 use mathlib.Core.Path.{◌≡◌, refl, sym, ◌∙◌, ap, subst}
 use lib.Dec.{leb, eqb}
-use lib.ListN.{length, get_or, drop, length-take}
+use lib.ListN.{get_or}
 use borrow.Author.Tests.{le-leb, lt-leb, eq-eqb, eqb-false}
-use Rattle.rules.specs.Events.{Form, event_size, Entry, entry_at, entries_from, entries}
+use Rattle.rules.specs.Events.{Form, event_size, Entry, entry_at, entries_from}
 use Rattle.rules.specs.Lines.{ascii, decimal}
-use Rattle.rules.specs.Logs.{Header, form_in, event_bytes, event_ok}
-use Rattle.log_fields.specs.Fields.{Field, inside, at_most, zero_where, entry_fields, entries_fields, first}
+use Rattle.rules.specs.Logs.{event_ok}
+use Rattle.log_fields.specs.Fields.{Field, field, whole, inside, at_most, zero_where, entry_fields, entries_fields, first}
 use Rattle.log_fields.specs.Words.{should, holds, off_text, text_of}
 use Rattle.log_fields.proofs.Each.{in_area}
 use Rattle.log_fields.proofs.Firsts.{skips, stops}
 use Rattle.log_fields.proofs.Tests.{entry-tests}
-use Rattle.logs.proofs.Forms.{few_bytes}
 use Rattle.text.specs.Written.{Adds}
-use Rattle.off_field.specs.Numbers.{none-such}
 
 pub starts : (form : Form) (i : ℕ) {n len size : ℕ} → size ≡ event_size form → n ≡ len / event_size form → i < n → i * size + 10 ≤ len
 starts form i {n} {len} {size} es en h = rw es (in_area form i len (rw (← en) h))
@@ -72,6 +70,9 @@ module _ (number at : ℕ) (e : Entry) (bad : event_ok e ≡ false) where
   zero-fits true = refl
   zero-fits false = refl
 
+  abbrev none-such : Field
+  none-such = field [] whole 0 0 0 none
+
   offset-first : (e.offset ≡ 0 → ⊥) → inside (get_or (entry_fields number at e) 0 none-such) ≡ false
   offset-first o =
       rw (offset-unused silent broken (eqb e.offset 0) (eqb e.size 0) bad) (not-zero e.offset o)
@@ -82,11 +83,11 @@ module _ (number at : ℕ) (e : Entry) (bad : event_ok e ≡ false) where
   length-first : e.offset ≡ 0 → (inside (get_or (entry_fields number at e) 0 none-such) ≡ true) × (inside (get_or (entry_fields number at e) 1 none-such) ≡ false)
   length-first o = (rw o (zero-fits (silent || broken)), rw (length-bad o).0 (not-zero e.size (eqb-false e.size 0 (length-bad o).1)))
 
-  joins : (p q d w h s x : List ℕ) → ((p ++ q) ++ d ++ w) ++ ((h ++ s) ++ x) ≡ (((p ++ ((q ++ d) ++ w)) ++ h) ++ s) ++ x
+  joins : (p q d w h s x : List ℕ) → ((p ++ q) ++ d) ++ (w ++ ((h ++ s) ++ x)) ≡ (((p ++ ((q ++ d) ++ w)) ++ h) ++ s) ++ x
   joins p q d w h s x = simp append_assoc
 
   pub offset-line : (e.offset ≡ 0 → ⊥)
-      → (ascii "This is no log: event " ++ decimal number ++ ascii ": offset" ++ (holds (at + 6) e.offset ++ should 0 (some 0) ++ ascii ".\n")) ≡ text_of (first (entry_fields number at e))
+      → (ascii "This is no log: event " ++ decimal number ++ (ascii ": offset" ++ (holds (at + 6) e.offset ++ should 0 (some 0) ++ ascii ".\n"))) ≡ text_of (first (entry_fields number at e))
   unfolding off_text
   offset-line o =
       let k = offset-unused silent broken (eqb e.offset 0) (eqb e.size 0) bad in
@@ -94,7 +95,7 @@ module _ (number at : ℕ) (e : Entry) (bad : event_ok e ≡ false) where
       sym (rw (k, not-zero e.offset o))
 
   pub length-line : e.offset ≡ 0
-      → (ascii "This is no log: event " ++ decimal number ++ ascii ": length" ++ (holds (at + 8) e.size ++ should 0 (some 0) ++ ascii ".\n")) ≡ text_of (first (entry_fields number at e))
+      → (ascii "This is no log: event " ++ decimal number ++ (ascii ": length" ++ (holds (at + 8) e.size ++ should 0 (some 0) ++ ascii ".\n"))) ≡ text_of (first (entry_fields number at e))
   unfolding off_text
   length-line o =
       let k = length-bad o in
@@ -108,6 +109,3 @@ told form at bs i n h es ee bad = rw (es, ee) (off-event form at bs i n h (sym (
 
 pub adds_on : {a l k m : List ℕ} {at r : ℕ} → l ≡ k → Adds a l at r m → Adds a k at r m
 adds_on {a} {m = m} {at = at} {r = r} e p = subst (λ (x : List ℕ). Adds a x at r m) e p
-
-pub few-events : (h : Header) (l : List ℕ) → length (event_bytes h l) ≤ h.events * 12
-few-events h l = omega (arith, length-take (h.events * event_size (form_in h)) (drop h.events_at l), few_bytes (form_in h) h.events)

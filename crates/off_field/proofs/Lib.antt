@@ -1,4 +1,4 @@
 -- What the proofs of `off_field` share.
-pub mod Finding
+pub mod Rowing
 pub mod Saying
 pub mod Events

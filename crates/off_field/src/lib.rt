@@ -1,16 +1,16 @@
 // Of a bad log the first field that is off, and what it should be, as a line that is added to a text.
 #![tactic(auto)]
 
-ghost use Rattle.std.specs.Prelude.{false, [], ◌++◌, map, ◌≡◌, ◌+◌, ◌-◌, ◌*◌, ◌≤◌, ◌<◌, min, get_or, length};
+ghost use Rattle.std.specs.Prelude.{false, ◌++◌, map, not, ◌≡◌, ◌+◌, ◌*◌, ◌≤◌, ◌<◌, length};
 ghost use Rattle.std.proofs.Math.Option.{some};
 ghost use Rattle.rules.specs.Events.{event_size, entries};
 ghost use Rattle.rules.specs.Lines.{ascii, decimal};
-ghost use Rattle.rules.specs.Logs.{uses_of, event_ok, area};
+ghost use Rattle.rules.specs.Logs.{event_ok};
 ghost use Rattle.exchange.specs.Meaning.{form_of, entry_of};
 ghost use Rattle.logs.specs.Layout.{said};
-ghost use Rattle.log_fields.specs.Fields.{header_fields, entry_fields, entries_fields, first};
-ghost use Rattle.log_fields.specs.Words.{should, holds, text_of, off_line};
-ghost use Rattle.off_field.specs.Numbers.{uses, meant, row_of, first_of, names, in_one, behind, file_text};
+ghost use Rattle.log_fields.specs.Fields.{entry_fields, entries_fields, first};
+ghost use Rattle.log_fields.specs.Words.{should, text_of, off_line};
+ghost use Rattle.off_field.specs.Numbers.{row_of, named_fields, lies, first_row, behind, file_text};
 ghost use Rattle.text.specs.Written.{Adds};
 
 use exchange::events::{event_at, event_count, event_size};
@@ -19,205 +19,140 @@ use logs::header::{Header, form_in, header_size, moved_by};
 use logs::layout::{Uses, event_ok, events_of, most_listens, uses_of};
 use logs::reader::read_header;
 use text::{append, append_decimal};
-use wire::part;
 
-// Where a number stands, the number found there, and between which it should lie.
+// A field: its name, where it stands, the number found there, and between which it should lie.
 #[derive(Clone, Copy)]
-struct Numbers {
+struct Row {
+    name: &'static [u8],
     at: u64,
     found: u64,
     least: u64,
     most: u64,
 }
 
-// The rows of `header_fields` of `log_fields`, 0 to 17. Up to the listening address all stand where they do in either version.
-fn used(h: Header, u: Uses, n: usize, i: usize) -> Numbers
-    requires { i < 9 }
-    ensures { meant result ≡ row_of (said h) (uses u) n i }
-{
-    let Uses(value, sub, lengths, named, may, must) = u;
-    match i {
-        0 => Numbers {
-            at: 0,
-            found: h.version as u64,
-            least: 1,
-            most: 2,
-        },
-        1 => Numbers {
-            at: 2,
-            found: h.call as u64,
-            least: 0,
-            most: 15,
-        },
-        2 => Numbers {
-            at: 3,
-            found: h.flags as u64,
-            least: must as u64 * 32,
-            most: may as u64 * 32 + 31,
-        },
-        3 => Numbers {
-            at: 3,
-            found: (h.flags / 16 % 2) as u64,
-            least: 0,
-            most: named as u64,
-        },
-        4 => Numbers {
-            at: 4,
-            found: h.value as u64,
-            least: 0,
-            most: value as u64,
-        },
-        5 => Numbers {
-            at: 6,
-            found: h.sub as u64,
-            least: 0,
-            most: sub as u64 + (h.flags / 16 % 2) as u64 * 255,
-        },
-        6 => Numbers {
-            at: 7,
-            found: h.address_length as u64,
-            least: 0,
-            most: lengths as u64,
-        },
-        7 => Numbers {
-            at: 8,
-            found: h.size_length as u64,
-            least: 0,
-            most: lengths as u64,
-        },
-        _ => Numbers {
-            at: 9,
-            found: h.listens as u64,
-            least: 0,
-            most: most_listens(form_in(h)) as u64,
-        },
+impl Row {
+    fn is_off(self) -> bool
+        ensures { result ≡ not (lies self) }
+    {
+        self.found < self.least || self.most < self.found
     }
 }
 
-// What two bytes hold, behind so much.
-fn left_behind(taken: u64) -> u64
-    ensures { result ≡ 65535 - taken }
+fn between(name: &'static [u8], at: u64, found: u64, least: u64, most: u64) -> Row
+    ensures { row_of result ≡ (name.now, at, found, least, some most) }
 {
-    if taken < 65535 { 65535 - taken } else { 0 }
+    Row {
+        name,
+        at,
+        found,
+        least,
+        most,
+    }
 }
 
-fn smaller(a: u64, b: u64) -> u64
-    ensures { result ≡ min a b }
+fn exactly(name: &'static [u8], at: u64, found: u64, n: u64) -> Row
+    ensures { row_of result ≡ (name.now, at, found, n, some n) }
 {
-    if a < b { a } else { b }
+    between(name, at, found, n, n)
 }
 
-// The rest stands further in version 2.
-fn placed(h: Header, n: usize, i: usize) -> Numbers
-    requires { i < 9 }
-    ensures { meant result ≡ row_of (said h) (uses_of h.call) n (9 + i) }
+// The fields of a header, `header_fields` of `log_fields` up to T, by what its call uses. Behind the listening address all stand further in version 2.
+#[tactic(auto, using(crate::proofs::Rowing::little))]
+fn rows(h: Header) -> [Row; 17]
+    ensures { map row_of result ≡ named_fields (said h) }
 {
+    let Uses(value, sub, lengths, named, may, must) = uses_of(h.call);
     let form = form_in(h);
     let moved = moved_by(form) as u64;
     let size = header_size(h) as u64;
-    match i {
-        0 => {
-            let both = h.address_length as u64 + h.size_length as u64;
-            Numbers {
-                at: 10 + moved,
-                found: h.arguments as u64,
-                least: both,
-                most: smaller(both + (h.flags / 32 % 2) as u64 * 65535, left_behind(size)),
-            }
-        }
-        1 => Numbers {
-            at: 12 + moved,
-            found: h.arguments_at as u64,
-            least: size,
-            most: size,
-        },
-        2 => {
-            let begins = size + h.arguments as u64;
-            Numbers {
-                at: 14 + moved,
-                found: h.events as u64,
-                least: 0,
-                most: left_behind(begins) / event_size(form) as u64,
-            }
-        }
-        3 => {
-            let should = size + h.arguments as u64;
-            Numbers {
-                at: 16 + moved,
-                found: h.events_at as u64,
-                least: should,
-                most: should,
-            }
-        }
-        4 => {
-            let begins = h.events_at as u64 + h.events as u64 * event_size(form) as u64;
-            Numbers {
-                at: 18 + moved,
-                found: h.replies as u64,
-                least: 0,
-                most: left_behind(begins),
-            }
-        }
-        5 => {
-            let should = h.events_at as u64 + h.events as u64 * event_size(form) as u64;
-            Numbers {
-                at: 20 + moved,
-                found: h.replies_at as u64,
-                least: should,
-                most: should,
-            }
-        }
-        6 => {
-            let should = h.replies_at as u64 + h.replies as u64;
-            Numbers {
-                at: 22 + moved,
-                found: h.total as u64,
-                least: should,
-                most: should,
-            }
-        }
-        7 => Numbers {
-            at: 32 + moved,
-            found: h.overall as u64,
-            least: 0,
-            most: (h.flags / 8 % 2) as u64 * 4294967295,
-        },
-        _ => Numbers {
-            at: 0,
-            found: n as u64,
-            least: h.total as u64,
-            most: h.total as u64,
-        },
-    }
+    let both = h.address_length as u64 + h.size_length as u64;
+    let events_at = size + h.arguments as u64;
+    let replies_at = h.events_at as u64 + h.events as u64 * event_size(form) as u64;
+    let total = h.replies_at as u64 + h.replies as u64;
+    // where an area begins and where the last one ends stands in two bytes
+    let left: u64 = 65535;
+    let flag_16 = (h.flags / 16 % 2) as u64;
+    let most_arguments = (both + (h.flags / 32 % 2) as u64 * 65535).min(left.saturating_sub(size));
+    let most_events = left.saturating_sub(events_at) / event_size(form) as u64;
+    let most_replies = left.saturating_sub(replies_at);
+    [
+        between(b"version", 0, h.version as u64, 1, 2),
+        between(b"call", 2, h.call as u64, 0, 15),
+        between(
+            b"flags",
+            3,
+            h.flags as u64,
+            must as u64 * 32,
+            may as u64 * 32 + 31,
+        ),
+        between(b"flag-16", 3, flag_16, 0, named as u64),
+        between(b"value", 4, h.value as u64, 0, value as u64),
+        between(
+            b"sub-function",
+            6,
+            h.sub as u64,
+            0,
+            sub as u64 + flag_16 * 255,
+        ),
+        between(
+            b"address-length",
+            7,
+            h.address_length as u64,
+            0,
+            lengths as u64,
+        ),
+        between(b"size-length", 8, h.size_length as u64, 0, lengths as u64),
+        between(
+            b"listening-address",
+            9,
+            h.listens as u64,
+            0,
+            most_listens(form) as u64,
+        ),
+        between(
+            b"arguments-count",
+            10 + moved,
+            h.arguments as u64,
+            both,
+            most_arguments,
+        ),
+        exactly(b"arguments-offset", 12 + moved, h.arguments_at as u64, size),
+        between(b"events-count", 14 + moved, h.events as u64, 0, most_events),
+        exactly(b"events-offset", 16 + moved, h.events_at as u64, events_at),
+        between(
+            b"replies-count",
+            18 + moved,
+            h.replies as u64,
+            0,
+            most_replies,
+        ),
+        exactly(
+            b"replies-offset",
+            20 + moved,
+            h.replies_at as u64,
+            replies_at,
+        ),
+        exactly(b"total", 22 + moved, h.total as u64, total),
+        between(
+            b"T",
+            32 + moved,
+            h.overall as u64,
+            0,
+            (h.flags / 8 % 2) as u64 * 4294967295,
+        ),
+    ]
 }
 
-// A row.
-fn row(h: Header, n: usize, i: usize) -> Numbers
-    requires { i < 18 }
-    ensures { meant result ≡ row_of (said h) (uses_of h.call) n i }
+// The first row that is off; None where none is.
+fn first_row(rows: &[Row]) -> Option<Row>
+    ensures { result ≡ first_row rows.now }
 {
-    if i < 9 {
-        return used(h, uses_of(h.call), n, i);
-    }
-    placed(h, n, i - 9)
-}
-
-// Which row is the first that is off; 18 where none is.
-fn first_row(h: Header, n: usize) -> usize
-    ensures { result ≡ first_of (header_fields (said h) (uses_of h.call) n) }
-{
-    let mut i = 0;
-    while i < 18 {
-        let f = row(h, n, i);
-        if f.found < f.least {
-            return i;
+    for row in rows {
+        if row.is_off() {
+            return Some(*row);
         }
-        if f.most < f.found {
-            return i;
-        }
-        i += 1;
     }
-    i
+    None
 }
 
 fn put_should(text: &mut [u8], at: usize, least: u64, most: u64) -> usize
@@ -231,61 +166,18 @@ fn put_should(text: &mut [u8], at: usize, least: u64, most: u64) -> usize
     append_decimal(text, b, most)
 }
 
-// All that stands behind a name.
-fn put_numbers(text: &mut [u8], at: usize, f: Numbers) -> usize
-    ensures { Adds (behind f) text.old at result text.new }
+// A row's name, and what stands behind it.
+fn put_row(text: &mut [u8], at: usize, row: Row) -> usize
+    ensures { Adds (row.name.now ++ behind row) text.old at result text.new }
 {
-    let place = f.at;
-    let found = f.found;
-    let least = f.least;
-    let most = f.most;
-    let a = append(text, at, b" (byte ");
-    let b = append_decimal(text, a, place);
-    let c = append(text, b, b") is ");
-    let d = append_decimal(text, c, found);
-    let e = append(text, d, b" and should be ");
-    let g = put_should(text, e, least, most);
+    let a = append(text, at, row.name);
+    let b = append(text, a, b" (byte ");
+    let c = append_decimal(text, b, row.at);
+    let d = append(text, c, b") is ");
+    let e = append_decimal(text, d, row.found);
+    let f = append(text, e, b" and should be ");
+    let g = put_should(text, f, row.least, row.most);
     append(text, g, b".\n")
-}
-
-// Where a name stands among all of them, and how long it is.
-#[derive(Clone, Copy)]
-struct Span(usize, usize);
-
-fn name_at(i: usize) -> Span
-    ensures { area in_one result.0 result.1 ≡ get_or names i [] }
-{
-    match i {
-        0 => Span(0, 7),
-        1 => Span(8, 4),
-        2 => Span(13, 5),
-        3 => Span(19, 7),
-        4 => Span(27, 5),
-        5 => Span(33, 12),
-        6 => Span(46, 14),
-        7 => Span(61, 11),
-        8 => Span(73, 17),
-        9 => Span(91, 15),
-        10 => Span(107, 16),
-        11 => Span(124, 12),
-        12 => Span(137, 13),
-        13 => Span(151, 13),
-        14 => Span(165, 14),
-        15 => Span(180, 5),
-        16 => Span(186, 1),
-        _ => Span(0, 0),
-    }
-}
-
-fn put_name(text: &mut [u8], at: usize, i: usize) -> usize
-    ensures { Adds (get_or names i []) text.old at result text.new }
-{
-    let s = name_at(i);
-    let from = s.0;
-    let len = s.1;
-    let all =
-        b"version call flags flag-16 value sub-function address-length size-length listening-address arguments-count arguments-offset events-count events-offset replies-count replies-offset total T";
-    append(text, at, part(all, from, len))
 }
 
 // Of a file's length: the least that it should be, and what stands behind that.
@@ -299,48 +191,31 @@ fn put_file(text: &mut [u8], at: usize, n: usize, least: u64, tail: &[u8]) -> us
     append(text, d, tail)
 }
 
-// The line for a row of the header's fields that is off.
-fn put_row(text: &mut [u8], at: usize, i: usize, f: Numbers) -> usize
-    ensures { Adds (ascii "This is no log: " ++ get_or names i [] ++ behind f) text.old at result text.new }
-{
-    let a = append(text, at, b"This is no log: ");
-    let b = put_name(text, a, i);
-    put_numbers(text, b, f)
-}
-
-// The line for a field of an event, by its number and the field's name.
-fn put_event_field(text: &mut [u8], at: usize, number: u64, name: &[u8], f: Numbers) -> usize
-    ensures { Adds (ascii "This is no log: event " ++ decimal number ++ name.now ++ behind f) text.old at result text.new }
-{
-    let a = append(text, at, b"This is no log: event ");
-    let b = append_decimal(text, a, number);
-    let c = append(text, b, name);
-    put_numbers(text, c, f)
-}
-
 // The line for an event with a field that is off: its number, and where it begins.
 fn put_event(text: &mut [u8], at: usize, number: u64, begins: u64, event: Event) -> usize
     requires { (begins < 4294967296) × (event_ok (entry_of event) ≡ false) }
     ensures { Adds (text_of (first (entry_fields number begins (entry_of event)))) text.old at result text.new }
 {
-    let offset = event.offset;
-    let size = event.size;
-    if offset != 0 {
-        let f = Numbers {
+    let row = if event.offset != 0 {
+        Row {
+            name: b": offset",
             at: begins + 6,
-            found: offset as u64,
+            found: event.offset as u64,
             least: 0,
             most: 0,
-        };
-        return put_event_field(text, at, number, b": offset", f);
-    }
-    let f = Numbers {
-        at: begins + 8,
-        found: size as u64,
-        least: 0,
-        most: 0,
+        }
+    } else {
+        Row {
+            name: b": length",
+            at: begins + 8,
+            found: event.size as u64,
+            least: 0,
+            most: 0,
+        }
     };
-    put_event_field(text, at, number, b": length", f)
+    let a = append(text, at, b"This is no log: event ");
+    let b = append_decimal(text, a, number);
+    put_row(text, b, row)
 }
 
 // The line for the first event with a field that is off; the events begin at index `from` of the log.
@@ -348,16 +223,12 @@ fn put_events(text: &mut [u8], at: usize, form: Form, from: u16, events: &[u8]) 
     requires { length events.now ≤ 786420 }
     ensures { Adds (text_of (first (entries_fields (form_of form) from 0 (entries (form_of form) events.now)))) text.old at result text.new }
 {
-    let size = event_size(form);
-    let n = event_count(form, events);
-    let mut i = 0;
-    while i < n {
+    for i in 0..event_count(form, events) {
         let event = event_at(form, events, i);
         if !event_ok(event) {
-            let begins = from as usize + i * size;
+            let begins = from as usize + i * event_size(form);
             return put_event(text, at, i as u64 + 1, begins as u64, event);
         }
-        i += 1;
     }
     at
 }
@@ -367,18 +238,18 @@ pub fn put_off(text: &mut [u8], at: usize, log: &[u8]) -> usize
     ensures { Adds (off_line log.now) text.old at result text.new }
 {
     let h = read_header(log);
-    let n = log.len();
     let size = header_size(h);
-    if n < size {
-        return put_file(text, at, n, size as u64, b" or more.\n");
+    if log.len() < size {
+        return put_file(text, at, log.len(), size as u64, b" or more.\n");
     }
-    let i = first_row(h, n);
-    if i < 17 {
-        return put_row(text, at, i, row(h, n, i));
+    match first_row(&rows(h)) {
+        Some(row) => {
+            let a = append(text, at, b"This is no log: ");
+            put_row(text, a, row)
+        }
+        None if log.len() != h.total as usize => {
+            put_file(text, at, log.len(), h.total as u64, b".\n")
+        }
+        None => put_events(text, at, form_in(h), h.events_at, events_of(log, h)),
     }
-    let total = h.total as u64;
-    if i == 17 {
-        return put_file(text, at, n, total, b".\n");
-    }
-    put_events(text, at, form_in(h), h.events_at, events_of(log, h))
 }

@@ -2,26 +2,11 @@
 // `NAME.expected` has the line of each.
 #![tactic(auto)]
 
-use blocks::Cut;
-use faults::Found;
-use lengths::Number;
 use std::io;
 use std::io::Read;
 use streams::{open, read_full};
-use text::{Written, put_line};
+use text::put_line;
 use wire::part;
-
-// What the cases of a list are.
-#[derive(Clone, Copy)]
-enum List {
-    Logs,
-    Blocks,
-    Names,
-    Memory,
-    Alfid,
-    Selections,
-    Limits,
-}
 
 // The longest data that is cut; a line has its digits, and is longer than any line of a log.
 const LONGEST_DATA: usize = 9000;
@@ -31,36 +16,27 @@ const LONGEST_LINE: usize = 18048;
 // At the door, in place of a limit of notices: none.
 const NO_LIMIT: u16 = 65535;
 
-#[derive(Clone, Copy)]
-enum Byte {
-    Next(u8),
-    End,
-}
-
-fn read_byte<R: Read>(file: &mut R) -> io::Result<Byte> {
+// The next byte, or None at the file's end.
+fn read_byte<R: Read>(file: &mut R) -> io::Result<Option<u8>> {
     let mut byte = [0u8; 1];
     if read_full(file, &mut byte)? == 0 {
-        return Ok(Byte::End);
+        return Ok(None);
     }
-    Ok(Byte::Next(byte[0]))
+    Ok(Some(byte[0]))
 }
 
 // Reads up to a newline, which is kept, or to the end of the file or of the buffer.
 fn read_line<R: Read>(file: &mut R, line: &mut [u8]) -> io::Result<usize> {
-    let mut n = 0;
-    while n < line.len() {
-        match read_byte(file)? {
-            Byte::Next(byte) => {
-                line[n] = byte;
-                n += 1;
-                if byte == b'\n' {
-                    return Ok(n);
-                }
-            }
-            Byte::End => return Ok(n),
+    for n in 0..line.len() {
+        let Some(byte) = read_byte(file)? else {
+            return Ok(n);
+        };
+        line[n] = byte;
+        if byte == b'\n' {
+            return Ok(n + 1);
         }
     }
-    Ok(n)
+    Ok(line.len())
 }
 
 // Reads n bytes to the buffer's front, and answers whether it could.
@@ -73,23 +49,18 @@ fn read_exactly<R: Read>(file: &mut R, buffer: &mut [u8], n: usize) -> io::Resul
 
 // Data whose bytes count up to 250 and begin again, so that a block shows where it was cut.
 fn counting(data: &mut [u8]) {
-    let mut i = 0;
-    while i < data.len() {
+    for i in 0..data.len() {
         data[i] = (i % 251) as u8;
-        i += 1;
     }
 }
 
 // A number of up to eight bytes.
 fn number(bytes: &[u8]) -> u64 {
-    match lengths::block_length(bytes) {
-        Number::Value(n) => n,
-        Number::Overflow => 0,
-    }
+    lengths::block_length(bytes).unwrap_or(0)
 }
 
 // The data's length, the block length and the block's number, eight bytes each. The line: refusal, counter, length and bytes of the block.
-fn block_line(case: &[u8], line: &mut [u8]) -> Written {
+fn block_line(case: &[u8], line: &mut [u8]) -> Option<usize> {
     let mut counting_data = [0u8; LONGEST_DATA];
     counting(&mut counting_data);
     let data = part(&counting_data, 0, number(part(case, 0, 8)) as usize);
@@ -97,7 +68,7 @@ fn block_line(case: &[u8], line: &mut [u8]) -> Written {
     let k = number(part(case, 16, 8));
     let block = blocks::block(data, n, k);
     match blocks::counter(data, n, k) {
-        Cut::Counter(counter) => {
+        Ok(counter) => {
             put_line(
                 line,
                 b"block",
@@ -108,12 +79,12 @@ fn block_line(case: &[u8], line: &mut [u8]) -> Written {
                 block,
             )
         }
-        Cut::Refused(refusal) => put_line(line, b"block", refusal as u64, 0, 0, b"", block),
+        Err(refusal) => put_line(line, b"block", u8::from(refusal) as u64, 0, 0, b"", block),
     }
 }
 
 // A negative code. The line: the code and the number of its name.
-fn name_line(case: &[u8], line: &mut [u8]) -> Written {
+fn name_line(case: &[u8], line: &mut [u8]) -> Option<usize> {
     let code = wire::byte_at(case, 0);
     put_line(
         line,
@@ -127,26 +98,22 @@ fn name_line(case: &[u8], line: &mut [u8]) -> Written {
 }
 
 // A value and a width, eight bytes each, and the wide setting. The line: refusal, length and bytes.
-fn memory_line(case: &[u8], line: &mut [u8]) -> Written {
+fn memory_line(case: &[u8], line: &mut [u8]) -> Option<usize> {
     let width = number(part(case, 8, 8)) as usize;
     let wide = wire::byte_at(case, 16) == 1;
-    let memory = wire::memory_bytes(number(part(case, 0, 8)), width, wide);
-    let bytes = memory.bytes;
-    let len = memory.len;
-    put_line(
-        line,
-        b"memory",
-        memory.refusal as u64,
-        len as u64,
-        0,
-        b"",
-        part(&bytes, 0, len),
-    )
+    match wire::memory_bytes(number(part(case, 0, 8)), width, wide) {
+        Ok(memory) => {
+            let bytes = memory.bytes;
+            let len = memory.len;
+            put_line(line, b"memory", 0, len as u64, 0, b"", part(&bytes, 0, len))
+        }
+        Err(refusal) => put_line(line, b"memory", u8::from(refusal) as u64, 0, 0, b"", b""),
+    }
 }
 
 // The call and its flags, the methods, address, size and their widths, the wide setting and data, through the door. The line: refusal,
 // length and bytes of the request.
-fn alfid_line(case: &[u8], line: &mut [u8]) -> Written {
+fn alfid_line(case: &[u8], line: &mut [u8]) -> Option<usize> {
     let mut request = [0u8; 4095];
     let mut answer = [0u64; 15];
     alfid_door::bintrochis_door_call_alfid(
@@ -182,28 +149,18 @@ fn alfid_line(case: &[u8], line: &mut [u8]) -> Written {
     )
 }
 
-// Where a record begins; past every record where there is none.
-fn begins(found: Found) -> usize {
-    match found {
-        Found::At(at) => at,
-        Found::Nothing => usize::MAX,
-    }
-}
-
 // A mask and records. The line: how many are selected, and these.
-fn select_line(case: &[u8], line: &mut [u8]) -> Written {
+fn select_line(case: &[u8], line: &mut [u8]) -> Option<usize> {
     let mask = wire::byte_at(case, 0);
     let records = part(case, 1, case.len());
     let n = faults::count(mask, records);
     if n > 1000 {
-        return Written::NoRoom;
+        return None;
     }
     let mut chosen = [0u8; 4000];
-    let mut k = 0;
-    while k < n {
-        let at = begins(faults::selected(mask, records, k));
+    for k in 0..n {
+        let at = faults::selected(mask, records, k).unwrap_or(usize::MAX);
         wire::copy_into(&mut chosen, k * 4, part(records, at, 4));
-        k += 1;
     }
     put_line(
         line,
@@ -217,7 +174,13 @@ fn select_line(case: &[u8], line: &mut [u8]) -> Written {
 }
 
 // A line of the door's numbers: the detail is the last so many bytes of its number, and then the bytes.
-fn told(line: &mut [u8], word: &[u8], answer: &[u64; 15], digits: usize, bytes: &[u8]) -> Written {
+fn told(
+    line: &mut [u8],
+    word: &[u8],
+    answer: &[u64; 15],
+    digits: usize,
+    bytes: &[u8],
+) -> Option<usize> {
     let detail = answer[1];
     let number = [(detail / 256 % 256) as u8, (detail % 256) as u8];
     let skipped = if digits < 2 { 2 - digits } else { 0 };
@@ -241,7 +204,7 @@ fn reply_in<'a>(answer: &[u64; 15], replies: &'a [u8]) -> &'a [u8] {
 }
 
 // The line of the door's numbers, which name parts of the reply bytes.
-fn answer_line(answer: &[u64; 15], replies: &[u8], line: &mut [u8]) -> Written {
+fn answer_line(answer: &[u64; 15], replies: &[u8], line: &mut [u8]) -> Option<usize> {
     let outcome = answer[0];
     match outcome {
         0 => told(line, b"positive", answer, 0, data_in(answer, replies)),
@@ -255,12 +218,12 @@ fn answer_line(answer: &[u64; 15], replies: &[u8], line: &mut [u8]) -> Written {
         8 => told(line, b"overflow", answer, 0, reply_in(answer, replies)),
         9 => told(line, b"refused", answer, 1, b""),
         10 => told(line, b"pendinglimit", answer, 0, b""),
-        _ => Written::NoRoom,
+        _ => None,
     }
 }
 
 // A limit of notices, two bytes, and a log, through the door. The line: the log's under that limit.
-fn limit_line(case: &[u8], line: &mut [u8]) -> Written {
+fn limit_line(case: &[u8], line: &mut [u8]) -> Option<usize> {
     let log = part(case, 2, case.len());
     let h = logs::reader::read_header(log);
     let arguments = part(log, logs::header::header_size(h), h.arguments as usize);
@@ -288,59 +251,43 @@ fn limit_line(case: &[u8], line: &mut [u8]) -> Written {
         &mut answer,
     );
     if result != 0 {
-        return Written::NoRoom;
+        return None;
     }
     answer_line(&answer, replies, line)
 }
 
-fn line_of(list: List, case: &[u8], line: &mut [u8]) -> Written {
-    match list {
-        List::Logs => log_line::line_of(case, line),
-        List::Blocks => block_line(case, line),
-        List::Names => name_line(case, line),
-        List::Memory => memory_line(case, line),
-        List::Alfid => alfid_line(case, line),
-        List::Selections => select_line(case, line),
-        List::Limits => limit_line(case, line),
-    }
-}
+// What makes the line of a list's case.
+type LineOf = fn(&[u8], &mut [u8]) -> Option<usize>;
 
-#[derive(Clone, Copy)]
-enum Replayed {
-    Right,
-    Wrong,
-    End,
-}
-
-// The next case and its line; the end where both files are read. A file that ends early gives wrong lines.
-fn replay_one<R: Read, S: Read>(list: List, cases: &mut R, lines: &mut S) -> io::Result<Replayed> {
+// Whether the line of the next case is right; None where both files are read. A file that ends early gives wrong lines.
+fn replay_one<R: Read, S: Read>(
+    line_of: LineOf,
+    cases: &mut R,
+    lines: &mut S,
+) -> io::Result<Option<bool>>
+    requires { IsAlwaysCallable line_of }
+{
     let mut head = [0u8; 4];
     let got = read_full(cases, &mut head)?;
     let mut expected = [0u8; LONGEST_LINE];
     let n = read_line(lines, &mut expected)?;
     if got == 0 && n == 0 {
-        return Ok(Replayed::End);
+        return Ok(None);
     }
     if got < 4 {
-        return Ok(Replayed::Wrong);
+        return Ok(Some(false));
     }
     // with room for a log that is too long
     let mut case = [0u8; 131072];
     let len = wire::u32_at(&head, 0) as usize;
     if !read_exactly(cases, &mut case, len)? {
-        return Ok(Replayed::Wrong);
+        return Ok(Some(false));
     }
     let mut line = [0u8; LONGEST_LINE];
-    match line_of(list, part(&case, 0, len), &mut line) {
-        Written::Line(m) => {
-            if part(&line, 0, m) == part(&expected, 0, n) {
-                Ok(Replayed::Right)
-            } else {
-                Ok(Replayed::Wrong)
-            }
-        }
-        Written::NoRoom => Ok(Replayed::Wrong),
-    }
+    Ok(Some(match line_of(part(&case, 0, len), &mut line) {
+        Some(m) => part(&line, 0, m) == part(&expected, 0, n),
+        None => false,
+    }))
 }
 
 #[derive(Clone, Copy)]
@@ -349,18 +296,18 @@ struct Tally {
     wrong: u64,
 }
 
-// A proved loop has to end, and nothing says that a file does: the loop counts its turns down from a number that no list uses up.
-fn replay<R: Read, S: Read>(list: List, cases: &mut R, lines: &mut S) -> io::Result<Tally> {
+// A proved loop has to end, and nothing says that a file does: the loop takes as many turns as no list has cases.
+fn replay<R: Read, S: Read>(line_of: LineOf, cases: &mut R, lines: &mut S) -> io::Result<Tally>
+    requires { IsAlwaysCallable line_of }
+{
     let mut right: u64 = 0;
     let mut wrong: u64 = 0;
-    let mut turns = u32::MAX;
-    while turns > 0 {
-        match replay_one(list, cases, lines)? {
-            Replayed::Right => right += 1,
-            Replayed::Wrong => wrong += 1,
-            Replayed::End => break,
+    for _ in 0..u32::MAX {
+        match replay_one(line_of, cases, lines)? {
+            Some(true) => right = right.saturating_add(1),
+            Some(false) => wrong = wrong.saturating_add(1),
+            None => break,
         }
-        turns -= 1;
     }
     Ok(Tally { right, wrong })
 }
@@ -370,55 +317,51 @@ fn say(rt: &impl Print, name: &str, tally: Tally) -> io::Result<()> {
 }
 
 // A list of these cases, in two files.
-fn play(rt: &HostRuntime, name: &str, list: List, cases: &[u8], lines: &[u8]) -> io::Result<()> {
+fn play(rt: &HostRuntime, name: &str, line_of: LineOf, cases: &[u8], lines: &[u8]) -> io::Result<()>
+    requires { IsAlwaysCallable line_of }
+{
     let mut cases = open(rt, cases)?;
     let mut lines = open(rt, lines)?;
-    say(rt, name, replay(list, &mut cases, &mut lines)?)
+    say(rt, name, replay(line_of, &mut cases, &mut lines)?)
 }
 
 fn main(rt: HostRuntime) -> io::Result<()> {
-    play(&rt, "logs", List::Logs, b"logs.bin", b"logs.expected")?;
+    play(
+        &rt,
+        "logs",
+        log_line::line_of,
+        b"logs.bin",
+        b"logs.expected",
+    )?;
     play(
         &rt,
         "listings",
-        List::Logs,
+        log_line::line_of,
         b"listings.bin",
         b"listings.expected",
     )?;
-    play(
-        &rt,
-        "blocks",
-        List::Blocks,
-        b"blocks.bin",
-        b"blocks.expected",
-    )?;
-    play(&rt, "names", List::Names, b"names.bin", b"names.expected")?;
+    play(&rt, "blocks", block_line, b"blocks.bin", b"blocks.expected")?;
+    play(&rt, "names", name_line, b"names.bin", b"names.expected")?;
     play(
         &rt,
         "memory",
-        List::Memory,
+        memory_line,
         b"memory.bin",
         b"memory.expected",
     )?;
-    play(&rt, "alfid", List::Alfid, b"alfid.bin", b"alfid.expected")?;
+    play(&rt, "alfid", alfid_line, b"alfid.bin", b"alfid.expected")?;
     play(
         &rt,
         "selections",
-        List::Selections,
+        select_line,
         b"selections.bin",
         b"selections.expected",
     )?;
-    play(
-        &rt,
-        "limits",
-        List::Limits,
-        b"limits.bin",
-        b"limits.expected",
-    )?;
+    play(&rt, "limits", limit_line, b"limits.bin", b"limits.expected")?;
     play(
         &rt,
         "addressed",
-        List::Logs,
+        log_line::line_of,
         b"addressed.bin",
         b"addressed.expected",
     )?;

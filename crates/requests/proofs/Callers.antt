@@ -1,35 +1,26 @@
 -- What the crates above cite, beside `Refusals`: what a prepared call is, and what is written of it. `prepare` and `row` answer by a plain equation.
+use Rattle.std.specs.Prelude.{Ok, Err}
 use Prim.Native.Nat.{ℕ}
 use native.Mathlib.Omega.{arith}
-use mathlib.Core.Bool.{Bool, true}
+use mathlib.Core.Bool.{Bool, true, false, cond}
 use mathlib.Core.List.{List, ◌++◌}
 use mathlib.Core.Option.{none, some}
 use mathlib.Core.Path.{◌≡◌, refl, sym, ap, ◌∙◌}
 use lib.Dec.{eqb}
 use lib.ListN.{length}
-use borrow.Author.Tests.{eq-eqb}
-use Rattle.exchange.specs.Meaning as exchange
-use Rattle.exchange.specs.declared.types.SubFunction.{SubFunction}
-use Rattle.exchange.specs.declared.types.SubFunction.TheVariants.{Absent, Given}
+use borrow.Author.Tests.{eqb-true, eqb-false}
 use Rattle.rules.specs.Calls as rules
 use Rattle.rules.specs.Calls.{request_of}
 use Rattle.rules.specs.InOrder.{judge}
 use Rattle.rules.specs.Refusals.{arguments}
-use Rattle.rules.proofs.Judging.{Pass, judge-under, judge-pass, judge-inv, pass-append}
+use Rattle.rules.proofs.Judging.{Pass, judge-pass, judge-inv, pass-append}
 use Rattle.requests.specs.declared.Call.{Call}
 use Rattle.requests.specs.declared.Prepared.{Prepared}
 use Rattle.requests.specs.Meaning.{call_of}
-use Rattle.requests.specs.Prepared.{first, sizes, before10, refusal_of, refused_with, ready_of, prepared_of, over, pieces_of, Written}
+use Rattle.requests.specs.Prepared.{first, sizes, before10, refusal_of, ready_of, prepared_of, over, pieces_of, Written}
 use Rattle.requests.proofs.Judging.{by_number, non-zero-append}
 use Rattle.requests.proofs.Refusals.{non-zero-arguments}
 use Rattle.requests.proofs.Requests.{pieces}
-
--- No two sub-functions mean the same.
-pub same-sub : (x y : SubFunction) → exchange.sub_of x ≡ exchange.sub_of y → x ≡ y
-same-sub Absent Absent e = refl
-same-sub Absent (Given s) e = absurd (let z : ◌≡◌ {A = ℕ} 0 1 = cc in omega arith)
-same-sub (Given s) Absent e = absurd (let z : ◌≡◌ {A = ℕ} 0 1 = cc in omega arith)
-same-sub (Given s) (Given t) e = cc
 
 -- `write`: one answer fits.
 pub unique : {bytes before : List ℕ} {done done' : Bool} {after after' : List ℕ} → Written bytes before done after → Written bytes before done' after' → (done ≡ done') × (after ≡ after')
@@ -38,19 +29,34 @@ unique x y =
     (same, x.buffer ∙ rw same (sym y.buffer))
 
 module _ (k : Call) (quiet : Bool) (a s d : List ℕ) (room : ℕ) where
-  -- The refusal of a prepared call is the call's.
-  pub refusal_is : (prepared_of k quiet a s d room).refusal ≡ refusal_of quiet (call_of k a s d) room
+  abbrev none-of : ℕ
+  none-of = refusal_of quiet (call_of k a s d) room
+
+  by-refusal : prepared_of k quiet a s d room ≡ cond (eqb none-of 0) (Ok (ready_of k quiet a s d)) (Err none-of)
   unfolding prepared_of refusal_of
-  refusal_is = judge-under (λ p. p.refusal) refused_with (before10 quiet (call_of k a s d) room) (ready_of k quiet a s d)
+  by-refusal =
+      let c = call_of k a s d in
+      by_number Err (before10 quiet c room) _ (non-zero-append (arguments c) (sizes (length (request_of quiet c)) room) (non-zero-arguments c) (refl, (refl, tt)))
+
+  -- The refusal of a prepared call is the call's.
+  pub refusal_is : {n : ℕ} → Err n ≡ prepared_of k quiet a s d room → (n ≡ none-of) × (n ≡ 0 → ⊥)
+  refusal_is {n} e = go (eqb none-of 0) refl (e ∙ by-refusal)
+    where
+      go : (b : Bool) → eqb none-of 0 ≡ b → Err n ≡ cond b (Ok (ready_of k quiet a s d)) (Err none-of) → (n ≡ none-of) × (n ≡ 0 → ⊥)
+      go true t h = absurd (let z : ◌≡◌ {A = ℕ} 0 1 = cc in omega arith)
+      go false t h = let same : n ≡ none-of = cc in (same, λ z. eqb-false none-of 0 t (sym same ∙ z))
 
   -- Where there is none it is ready.
-  pub ready-is : (prepared_of k quiet a s d room).refusal ≡ 0 → prepared_of k quiet a s d room ≡ ready_of k quiet a s d
-  unfolding prepared_of refusal_of
-  ready-is z =
-      let c = call_of k a s d in
-      let checks = before10 quiet c room in
-      let none : eqb (first checks) 0 ≡ true = eq-eqb (first checks) 0 (sym refusal_is ∙ z) in
-      by_number refused_with checks (ready_of k quiet a s d) (non-zero-append (arguments c) (sizes (length (request_of quiet c)) room) (non-zero-arguments c) (refl, (refl, tt))) ∙ rw none
+  pub ready-is : {p : Prepared} → Ok p ≡ prepared_of k quiet a s d room → (none-of ≡ 0) × (p ≡ ready_of k quiet a s d)
+  ready-is {p} e = go (eqb none-of 0) refl (e ∙ by-refusal)
+    where
+      go : (b : Bool) → eqb none-of 0 ≡ b → Ok p ≡ cond b (Ok (ready_of k quiet a s d)) (Err none-of) → (none-of ≡ 0) × (p ≡ ready_of k quiet a s d)
+      go true t h = (eqb-true none-of 0 t, cc)
+      go false t h = absurd (let z : ◌≡◌ {A = ℕ} 0 1 = cc in omega arith)
+
+  -- A call that nothing refuses is ready.
+  pub is-prepared : none-of ≡ 0 → Ok (ready_of k quiet a s d) ≡ prepared_of k quiet a s d room
+  is-prepared e = sym (by-refusal ∙ rw e)
 
 -- What no refusal of 1 to 9 gives: the arguments passed, and the request is neither too long nor too long for the buffer.
 pub passes : (quiet : Bool) (c : rules.Call) (room : ℕ) → refusal_of quiet c room ≡ 0 → Pass (arguments c) × Pass (sizes (length (request_of quiet c)) room)
@@ -62,15 +68,15 @@ passes quiet c room e =
     pass-append (arguments c) size (judge-inv some checks (λ f z. let y : ◌≡◌ {A = ℕ} 0 1 = cc in omega arith) none_of).0
 
 -- Then what is written is the request.
-module _ (k : Call) (quiet : Bool) (a s d before : List ℕ) {p : Prepared} (is : p ≡ prepared_of k quiet a s d (length before)) (ready : p.refusal ≡ 0) where
+module _ (k : Call) (quiet : Bool) (a s d before : List ℕ) {p : Prepared} (is : Ok p ≡ prepared_of k quiet a s d (length before)) where
   abbrev c : rules.Call
   c = call_of k a s d
 
   pub none-of-nine : refusal_of quiet c (length before) ≡ 0
-  none-of-nine = sym (refusal_is k quiet a s d (length before)) ∙ sym (ap (λ (q : Prepared). q.refusal) is) ∙ ready
+  none-of-nine = (ready-is k quiet a s d (length before) is).0
 
   pub is-ready : p ≡ ready_of k quiet a s d
-  is-ready = is ∙ ready-is k quiet a s d (length before) (sym (ap (λ (q : Prepared). q.refusal) is) ∙ ready)
+  is-ready = (ready-is k quiet a s d (length before) is).1
 
   pub sends : p.length ≡ length (request_of quiet c)
   sends = ap (λ (q : Prepared). q.length) is-ready

@@ -1,10 +1,10 @@
 -- A code's row is `rules`' row of the call, whatever stands beside it.
+use Rattle.std.specs.Prelude as code
+use Rattle.std.specs.Prelude.{Some, None}
 use Prim.Native.Nat.{ℕ}
 use mathlib.Core.Bool.{Bool, true, false}
 use mathlib.Core.List.{List}
 use mathlib.Core.Path.{◌≡◌, refl, ap}
-use Rattle.exchange.specs.declared.types.SubFunction.{SubFunction}
-use Rattle.exchange.specs.declared.types.SubFunction.TheVariants as sub
 use Rattle.exchange.specs.Meaning as exchange
 use Rattle.rules.specs.Calls as rules
 use Rattle.rules.specs.Calls.{Field, table, sid_of, with_bit7}
@@ -60,11 +60,11 @@ module _ (a s : Field) (d : List ℕ) where
   pub sid-is : (k : Call) → sid_of (call_from k a s d) ≡ (row_of k).sid
   sid-is k = ap (λ r. r.sid) (same_row k)
 
-  pub sub_is : (k : Call) → rules.sub_of (call_from k a s d) ≡ exchange.sub_of (row_of k).sub
+  pub sub_is : (k : Call) → rules.sub_of (call_from k a s d) ≡ exchange.option_of (row_of k).sub
   sub_is k = ap (λ r. r.sub) (same_row k)
 
 -- The sub-function as it is sent.
-pub sent-sub : (quiet : Bool) (s : SubFunction) → exchange.sub_of (bit7 quiet s) ≡ with_bit7 quiet (exchange.sub_of s)
-sent-sub quiet sub.Absent = refl
-sent-sub true (sub.Given s) = refl
-sent-sub false (sub.Given s) = refl
+pub sent-sub : (quiet : Bool) (s : code.Option ℕ) → exchange.option_of (bit7 quiet s) ≡ with_bit7 quiet (exchange.option_of s)
+sent-sub quiet None = refl
+sent-sub true (Some s) = refl
+sent-sub false (Some s) = refl

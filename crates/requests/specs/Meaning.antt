@@ -1,7 +1,7 @@
 -- Each case of the enum `Call`, with the slices beside it, as `rules` says it.
 use Rattle.std.specs.Prelude.{ℕ, List, []}
 use Rattle.std.proofs.Math.Option.{Option, none, some}
-use Rattle.exchange.specs.Meaning.{sub_of}
+use Rattle.exchange.specs.Meaning.{option_of}
 use Rattle.rules.specs.Calls as rules
 use Rattle.rules.specs.Calls.{Field, given}
 use Rattle.requests.specs.declared.Data.{Data}
@@ -19,7 +19,7 @@ data_bytes p d = rules.or_none (data_of p d)
 
 -- Address and size in either form, and the data. Calls 6 and 8 always have data.
 abbrev pub call_from : Call → Field → Field → List ℕ → rules.Call
-call_from (call.Request sid sub p) a s d = rules.request sid (sub_of sub) (data_of p d)
+call_from (call.Request sid sub p) a s d = rules.request sid (option_of sub) (data_of p d)
 call_from (call.DiagnosticSessionControl sub) a s d = rules.session sub
 call_from (call.EcuReset sub) a s d = rules.reset sub
 call_from (call.SecurityAccess sub p) a s d = rules.security sub (data_of p d)

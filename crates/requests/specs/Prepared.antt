@@ -1,11 +1,10 @@
 -- A request worked out: its refusal or its pieces; and what a writer of the pieces leaves in the request buffer.
-use Rattle.std.specs.Prelude.{ℕ, Bool, false, cond, List, [], ◌∷◌, ◌++◌, ◌≡◌, leb, eqb, length, take, drop, replicate}
-use Rattle.exchange.specs.declared.types.SubFunction.TheVariants as sub
+use Rattle.std.specs.Prelude.{Ok, Err, Result}
+use Rattle.std.specs.Prelude.{ℕ, Bool, cond, List, [], ◌∷◌, ◌++◌, ◌≡◌, leb, eqb, length, take, drop}
 use Rattle.rules.specs.Calls as rules
 use Rattle.rules.specs.Calls.{given, request_of}
 use Rattle.rules.specs.InOrder.{Check, unless, judge}
 use Rattle.rules.specs.Refusals.{arguments}
-use Rattle.requests.specs.declared.Data.TheVariants.{Absent}
 use Rattle.requests.specs.declared.Call.{Call}
 use Rattle.requests.specs.declared.Prepared.{Prepared}
 use Rattle.requests.specs.Meaning.{call_of, data_bytes}
@@ -27,18 +26,6 @@ before10 quiet c room = arguments c ++ sizes (length (request_of quiet c)) room
 unfoldable pub refusal_of : Bool → rules.Call → ℕ → ℕ
 refusal_of quiet c room = first (before10 quiet c room)
 
-abbrev pub refused_with : ℕ → Prepared
-refused_with n = record {
-  refusal = n;
-  sid = 0;
-  sub = sub.Absent;
-  head_length = 0;
-  head = replicate 4 0;
-  memory = false;
-  «data» = Absent;
-  length = 0;
-}
-
 -- The pieces of a call that nothing refuses.
 abbrev pub ready_of : Call → Bool → List ℕ → List ℕ → List ℕ → Prepared
 ready_of k quiet a s d =
@@ -46,7 +33,6 @@ ready_of k quiet a s d =
     let sent = bit7 quiet r.sub in
     let opening = opening_of r.sid sent (numbers_by r.takes (rules.format (given a) (given s))) in
     record {
-      refusal = 0;
       sid = r.sid;
       sub = sent;
       head_length = length opening;
@@ -56,8 +42,8 @@ ready_of k quiet a s d =
       length = length (request_of quiet (call_of k a s d));
     }
 
-unfoldable pub prepared_of : Call → Bool → List ℕ → List ℕ → List ℕ → ℕ → Prepared
-prepared_of k quiet a s d room = judge refused_with (before10 quiet (call_of k a s d) room) (ready_of k quiet a s d)
+unfoldable pub prepared_of : Call → Bool → List ℕ → List ℕ → List ℕ → ℕ → Result Prepared ℕ
+prepared_of k quiet a s d room = judge Err (before10 quiet (call_of k a s d) room) (Ok (ready_of k quiet a s d))
 
 -- The bytes that a prepared request says, with these slices beside it.
 abbrev pub pieces_of : Prepared → List ℕ → List ℕ → List ℕ → List ℕ

@@ -1,18 +1,17 @@
 -- The rows of the code's calls, and what they are in `rules`: its table, and its refusals of arguments.
+use Rattle.std.specs.Prelude as code
+use Rattle.std.specs.Prelude.{Some, None}
 use Rattle.std.specs.Prelude.{ℕ, ◌+◌, ◌*◌, ◌/◌, ◌%◌, Bool, true, false, List, [], ◌∷◌, ◌++◌, eqb}
-use Rattle.exchange.specs.declared.types.SubFunction.{SubFunction}
-use Rattle.exchange.specs.declared.types.SubFunction.TheVariants as sub
-use Rattle.exchange.specs.Meaning.{sub_of}
+use Rattle.exchange.specs.Meaning.{option_of}
 use Rattle.rules.specs.Calls as rules
 use Rattle.rules.specs.Calls.{Field}
 use Rattle.rules.specs.InOrder.{Check, unless}
 use Rattle.rules.specs.Refusals as refusals
-use Rattle.requests.specs.declared.Data.{Data}
 use Rattle.requests.specs.declared.Data.TheVariants.{Absent, Present}
 use Rattle.requests.specs.declared.Call.{Call}
 use Rattle.requests.specs.declared.Call.TheVariants as call
 use Rattle.requests.specs.declared.rows.Numbers.{Numbers}
-use Rattle.requests.specs.declared.rows.Numbers.TheVariants.{None, One, Two}
+use Rattle.requests.specs.declared.rows.Numbers.TheVariants.{Empty, One, Two}
 use Rattle.requests.specs.declared.rows.Takes.{Takes}
 use Rattle.requests.specs.declared.rows.Takes.TheVariants.{Plain, Key, Memory, Load}
 use Rattle.requests.specs.declared.rows.Row.{Row}
@@ -22,32 +21,32 @@ use Rattle.requests.specs.Meaning.{data_bytes}
 abbrev pub identifier : ℕ → Numbers
 identifier id = Two (id / 256) (id % 256)
 
-abbrev pub entry : ℕ → ℕ → SubFunction → Takes → Row
+abbrev pub entry : ℕ → ℕ → code.Option ℕ → Takes → Row
 entry number sid s takes = record { number = number; sid = sid; sub = s; takes = takes }
 
 abbrev pub nothing : Takes
-nothing = Plain None Absent
+nothing = Plain Empty Absent
 
 abbrev pub row_of : Call → Row
-row_of (call.Request sid s p) = entry 0 sid s (Plain None p)
-row_of (call.DiagnosticSessionControl s) = entry 1 0x10 (sub.Given s) nothing
-row_of (call.EcuReset s) = entry 2 0x11 (sub.Given s) nothing
-row_of (call.SecurityAccess s p) = entry 3 0x27 (sub.Given s) (Key s p)
-row_of call.TesterPresent = entry 4 0x3e (sub.Given 0) nothing
-row_of call.ReadMemoryByAddress = entry 5 0x23 sub.Absent (Memory Absent)
-row_of call.WriteMemoryByAddress = entry 6 0x3d sub.Absent (Memory Present)
-row_of (call.ReadDataByIdentifier id) = entry 7 0x22 sub.Absent (Plain (identifier id) Absent)
-row_of (call.WriteDataByIdentifier id) = entry 8 0x2e sub.Absent (Plain (identifier id) Present)
-row_of (call.ReadDTCInformation mask) = entry 9 0x19 (sub.Given 1) (Plain (One mask) Absent)
-row_of (call.RoutineControl s id p) = entry 10 0x31 (sub.Given s) (Plain (identifier id) p)
-row_of (call.RequestDownload c e) = entry 11 0x34 sub.Absent (Load c e)
-row_of (call.RequestUpload c e) = entry 12 0x35 sub.Absent (Load c e)
-row_of (call.TransferData counter p) = entry 13 0x36 sub.Absent (Plain (One counter) p)
-row_of (call.RequestTransferExit p) = entry 14 0x37 sub.Absent (Plain None p)
-row_of (call.ReadDTCInformationDTC mask) = entry 15 0x19 (sub.Given 2) (Plain (One mask) Absent)
+row_of (call.Request sid s p) = entry 0 sid s (Plain Empty p)
+row_of (call.DiagnosticSessionControl s) = entry 1 0x10 (Some s) nothing
+row_of (call.EcuReset s) = entry 2 0x11 (Some s) nothing
+row_of (call.SecurityAccess s p) = entry 3 0x27 (Some s) (Key s p)
+row_of call.TesterPresent = entry 4 0x3e (Some 0) nothing
+row_of call.ReadMemoryByAddress = entry 5 0x23 None (Memory Absent)
+row_of call.WriteMemoryByAddress = entry 6 0x3d None (Memory Present)
+row_of (call.ReadDataByIdentifier id) = entry 7 0x22 None (Plain (identifier id) Absent)
+row_of (call.WriteDataByIdentifier id) = entry 8 0x2e None (Plain (identifier id) Present)
+row_of (call.ReadDTCInformation mask) = entry 9 0x19 (Some 1) (Plain (One mask) Absent)
+row_of (call.RoutineControl s id p) = entry 10 0x31 (Some s) (Plain (identifier id) p)
+row_of (call.RequestDownload c e) = entry 11 0x34 None (Load c e)
+row_of (call.RequestUpload c e) = entry 12 0x35 None (Load c e)
+row_of (call.TransferData counter p) = entry 13 0x36 None (Plain (One counter) p)
+row_of (call.RequestTransferExit p) = entry 14 0x37 None (Plain Empty p)
+row_of (call.ReadDTCInformationDTC mask) = entry 15 0x19 (Some 2) (Plain (One mask) Absent)
 
 abbrev pub numbers_of : Numbers → List ℕ
-numbers_of None = []
+numbers_of Empty = []
 numbers_of (One a) = a ∷ []
 numbers_of (Two a b) = a ∷ b ∷ []
 
@@ -68,7 +67,7 @@ refusing (Load c e) a s = refusals.width a ++ refusals.width s ++ refusals.metho
 
 -- A row as `rules` has it.
 abbrev pub row_means : Row → Field → Field → List ℕ → rules.Row
-row_means r a s d = rules.row r.number r.sid (sub_of r.sub) (taken r.takes a s d)
+row_means r a s d = rules.row r.number r.sid (option_of r.sub) (taken r.takes a s d)
 
 -- Calls 5, 6, 11 and 12 take an address and a size.
 abbrev pub takes_memory : Takes → Bool

@@ -1,19 +1,20 @@
 // The sixteen calls, their requests into a lent buffer, and refusals 1 to 9.
 #![tactic(auto)]
 
-ghost use Rattle.std.specs.Prelude.{◌+◌, ◌≤◌, cond, [], ◌++◌, ◌≡◌, length};
+ghost use Rattle.std.specs.Prelude.{◌+◌, ◌≤◌, cond, [], ◌++◌, ◌≡◌, length, Ok, Err};
+ghost use Rattle.rules.specs.InOrder.{judge};
+ghost use Rattle.wire.specs.Refusing.{numbered};
 ghost use Rattle.requests.specs.Meaning.{data_bytes};
 ghost use Rattle.requests.specs.Parameters.{bit7, opening_of, head_of};
-ghost use Rattle.requests.specs.Prepared.{first, sizes, over, refused_with, prepared_of, Written, pieces_of};
+ghost use Rattle.requests.specs.Prepared.{sizes, over, prepared_of, Written, pieces_of};
 
-use exchange::types::SubFunction;
-use parameters::Parameters;
 use rows::{Numbers, row_of};
+use wire::refusal::Refusal;
 
 mod parameters;
 pub mod rows;
 
-// Whether data is given beside a call: absent is not empty.
+// Whether data is given beside a call: absent is not empty. No Option of the bytes, since a call outlives them in the state record of `steps`.
 #[derive(Clone, Copy)]
 pub enum Data {
     Absent,
@@ -23,7 +24,7 @@ pub enum Data {
 // The calls 0 to 15 with their numbers, under the names of the Rust's services. Address, size and data stand beside it as slices.
 #[derive(Clone, Copy)]
 pub enum Call {
-    Request(u8, SubFunction, Data),
+    Request(u8, Option<u8>, Data),
     DiagnosticSessionControl(u8),
     EcuReset(u8),
     SecurityAccess(u8, Data),
@@ -41,14 +42,12 @@ pub enum Call {
     ReadDTCInformationDTC(u8),
 }
 
-// A request, worked out once: its first bytes, which of the caller's slices stand behind them, and how long it is. A refused one has none of these.
+// A request, worked out once: its first bytes, which of the caller's slices stand behind them, and how long it is.
 #[derive(Clone, Copy)]
 pub struct Prepared {
-    // 0 where there is none
-    pub refusal: u8,
     pub sid: u8,
     // as it is sent
-    pub sub: SubFunction,
+    pub sub: Option<u8>,
     pub head_length: u8,
     pub head: [u8; 4],
     pub memory: bool,
@@ -56,53 +55,32 @@ pub struct Prepared {
     pub length: usize,
 }
 
-fn refused(number: u8) -> Prepared
-    ensures { result ≡ refused_with number }
-{
-    Prepared {
-        refusal: number,
-        sid: 0,
-        sub: SubFunction::Absent,
-        head_length: 0,
-        head: [0; 4],
-        memory: false,
-        data: Data::Absent,
-        length: 0,
-    }
-}
-
 // "The suppressed client sets bit 7"; `quiet` says that it is this client who calls.
-pub fn with_bit7(quiet: bool, sub: SubFunction) -> SubFunction
+pub fn with_bit7(quiet: bool, sub: Option<u8>) -> Option<u8>
     ensures { result ≡ bit7 quiet sub }
 {
     match sub {
-        SubFunction::Absent => SubFunction::Absent,
-        SubFunction::Given(s) => {
-            if quiet {
-                SubFunction::Given(s % 128 + 128)
-            } else {
-                SubFunction::Given(s)
-            }
-        }
+        None => None,
+        Some(s) => { if quiet { Some(s % 128 + 128) } else { Some(s) } }
     }
 }
 
-// How many bytes of a request stand before its slices, and these with zeros behind them.
+// How many bytes of a request stand before its slices, and these with zeros behind them: an array with a length, since there is no heap.
 #[derive(Clone, Copy)]
 struct Head(u8, [u8; 4]);
 
 // SID, sub-function and the parameters that are numbers.
-fn opening(sid: u8, sub: SubFunction, numbers: Numbers) -> Head
+fn opening(sid: u8, sub: Option<u8>, numbers: Numbers) -> Head
     ensures { result ≡ head_of (opening_of sid sub numbers) }
 {
     match sub {
-        SubFunction::Absent => match numbers {
-            Numbers::None => Head(1, [sid, 0, 0, 0]),
+        None => match numbers {
+            Numbers::Empty => Head(1, [sid, 0, 0, 0]),
             Numbers::One(a) => Head(2, [sid, a, 0, 0]),
             Numbers::Two(a, b) => Head(3, [sid, a, b, 0]),
         },
-        SubFunction::Given(s) => match numbers {
-            Numbers::None => Head(2, [sid, s, 0, 0]),
+        Some(s) => match numbers {
+            Numbers::Empty => Head(2, [sid, s, 0, 0]),
             Numbers::One(a) => Head(3, [sid, s, a, 0]),
             Numbers::Two(a, b) => Head(4, [sid, s, a, b]),
         },
@@ -125,30 +103,36 @@ fn when_given<'a>(data: Data, bytes: &'a [u8]) -> &'a [u8]
     }
 }
 
-// Refusals 8 and 9 of a request in four pieces. One that is too long alone is refused first, so that the sum does not wrap.
-fn size_refusal(head: usize, address: usize, size: usize, data: usize, room: usize) -> u8
-    ensures { result ≡ first (sizes (head + address + size + «data») room) }
+// How long a request in four pieces is, or refusal 8 or 9. One piece that is too long alone is refused first, so that the sum does not wrap.
+fn total(
+    head: usize,
+    address: usize,
+    size: usize,
+    data: usize,
+    room: usize,
+) -> Result<usize, Refusal>
+    ensures { numbered result ≡ judge Err (sizes (head + address + size + «data») room) (Ok (head + address + size + «data»)) }
 {
     if head > 4095 {
-        return 8;
+        return Err(Refusal::RequestTooLong);
     }
     if address > 4095 {
-        return 8;
+        return Err(Refusal::RequestTooLong);
     }
     if size > 4095 {
-        return 8;
+        return Err(Refusal::RequestTooLong);
     }
     if data > 4095 {
-        return 8;
+        return Err(Refusal::RequestTooLong);
     }
     let len = head + address + size + data;
     if len > 4095 {
-        return 8;
+        return Err(Refusal::RequestTooLong);
     }
     if len > room {
-        return 9;
+        return Err(Refusal::RequestRoom);
     }
-    0
+    Ok(len)
 }
 
 // The request of a call, or the first refusal of 1 to 9 in document 01's order; `room` is the length of the request buffer.
@@ -159,39 +143,27 @@ pub fn prepare(
     size: &[u8],
     data: &[u8],
     room: usize,
-) -> Prepared
-    ensures { result ≡ prepared_of call quiet address.now size.now «data».now room }
+) -> Result<Prepared, Refusal>
+    ensures { numbered result ≡ prepared_of call quiet address.now size.now «data».now room }
 {
     let row = row_of(call);
-    let sid = row.sid;
-    let given_sub = row.sub;
-    let takes = row.takes;
-    let sub = with_bit7(quiet, given_sub);
-    match parameters::arguments(takes, address, size) {
-        Parameters::Refused(number) => refused(number),
-        Parameters::Sent(numbers, memory, with_data) => {
-            let head = opening(sid, sub, numbers);
-            let head_length = head.0;
-            let bytes = head.1;
-            let a = when(memory, address).len();
-            let s = when(memory, size).len();
-            let d = when_given(with_data, data).len();
-            let number = size_refusal(head_length as usize, a, s, d, room);
-            if number != 0 {
-                return refused(number);
-            }
-            Prepared {
-                refusal: 0,
-                sid,
-                sub,
-                head_length,
-                head: bytes,
-                memory,
-                data: with_data,
-                length: head_length as usize + a + s + d,
-            }
-        }
-    }
+    let sub = with_bit7(quiet, row.sub);
+    let sent = parameters::arguments(row.takes, address, size)?;
+    let opened = opening(row.sid, sub, sent.numbers);
+    let head = opened.1;
+    let a = when(sent.memory, address).len();
+    let s = when(sent.memory, size).len();
+    let d = when_given(sent.data, data).len();
+    let length = total(opened.0 as usize, a, s, d, room)?;
+    Ok(Prepared {
+        sid: row.sid,
+        sub,
+        head_length: opened.0,
+        head,
+        memory: sent.memory,
+        data: sent.data,
+        length,
+    })
 }
 
 // The pieces of a request, one behind the other, at the buffer's front.
@@ -225,9 +197,11 @@ pub fn write(
     let a = when(memory, address);
     let s = when(memory, size);
     let d = when_given(with_data, data);
-    if size_refusal(head.len(), a.len(), s.len(), d.len(), buffer.len()) != 0 {
-        return false;
+    match total(head.len(), a.len(), s.len(), d.len(), buffer.len()) {
+        Ok(_) => {
+            join(buffer, head, a, s, d);
+            true
+        }
+        Err(_) => false,
     }
-    join(buffer, head, a, s, d);
-    true
 }

@@ -4,13 +4,12 @@ ghost use Rattle.std.specs.Prelude.{◌≡◌};
 ghost use Rattle.requests.specs.Rows.{identifier, entry, row_of};
 
 use crate::{Call, Data};
-use exchange::types::SubFunction;
 use wire::constants::{ReportType, ServiceIdentifier, ZERO_SUB_FUNCTION};
 
 // The parameters that are numbers.
 #[derive(Clone, Copy)]
 pub enum Numbers {
-    None,
+    Empty,
     One(u8),
     Two(u8, u8),
 }
@@ -33,7 +32,7 @@ pub enum Takes {
 pub struct Row {
     pub number: u8,
     pub sid: u8,
-    pub sub: SubFunction,
+    pub sub: Option<u8>,
     pub takes: Takes,
 }
 
@@ -44,7 +43,7 @@ fn identifier(id: u16) -> Numbers
     Numbers::Two((id / 256) as u8, (id % 256) as u8)
 }
 
-fn entry(number: u8, sid: u8, sub: SubFunction, takes: Takes) -> Row
+fn entry(number: u8, sid: u8, sub: Option<u8>, takes: Takes) -> Row
     ensures { result ≡ entry number sid sub takes }
 {
     Row {
@@ -59,32 +58,27 @@ fn entry(number: u8, sid: u8, sub: SubFunction, takes: Takes) -> Row
 pub fn row_of(call: Call) -> Row
     ensures { result ≡ row_of call }
 {
-    let no_sub = SubFunction::Absent;
-    let nothing = Takes::Plain(Numbers::None, Data::Absent);
+    let no_sub = None;
+    let nothing = Takes::Plain(Numbers::Empty, Data::Absent);
     match call {
-        Call::Request(sid, sub, data) => entry(0, sid, sub, Takes::Plain(Numbers::None, data)),
+        Call::Request(sid, sub, data) => entry(0, sid, sub, Takes::Plain(Numbers::Empty, data)),
         Call::DiagnosticSessionControl(sub) => entry(
             1,
             ServiceIdentifier::DiagnosticSessionControl,
-            SubFunction::Given(sub),
+            Some(sub),
             nothing,
         ),
-        Call::EcuReset(sub) => entry(
-            2,
-            ServiceIdentifier::EcuReset,
-            SubFunction::Given(sub),
-            nothing,
-        ),
+        Call::EcuReset(sub) => entry(2, ServiceIdentifier::EcuReset, Some(sub), nothing),
         Call::SecurityAccess(sub, data) => entry(
             3,
             ServiceIdentifier::SecurityAccess,
-            SubFunction::Given(sub),
+            Some(sub),
             Takes::Key(sub, data),
         ),
         Call::TesterPresent => entry(
             4,
             ServiceIdentifier::TesterPresent,
-            SubFunction::Given(ZERO_SUB_FUNCTION),
+            Some(ZERO_SUB_FUNCTION),
             nothing,
         ),
         Call::ReadMemoryByAddress => entry(
@@ -114,13 +108,13 @@ pub fn row_of(call: Call) -> Row
         Call::ReadDTCInformation(mask) => entry(
             9,
             ServiceIdentifier::ReadDTCInformation,
-            SubFunction::Given(ReportType::ReportNumberOfDTCByStatusMask),
+            Some(ReportType::ReportNumberOfDTCByStatusMask),
             Takes::Plain(Numbers::One(mask), Data::Absent),
         ),
         Call::RoutineControl(sub, id, data) => entry(
             10,
             ServiceIdentifier::RoutineControl,
-            SubFunction::Given(sub),
+            Some(sub),
             Takes::Plain(identifier(id), data),
         ),
         Call::RequestDownload(c, e) => entry(
@@ -145,12 +139,12 @@ pub fn row_of(call: Call) -> Row
             14,
             ServiceIdentifier::RequestTransferExit,
             no_sub,
-            Takes::Plain(Numbers::None, data),
+            Takes::Plain(Numbers::Empty, data),
         ),
         Call::ReadDTCInformationDTC(mask) => entry(
             15,
             ServiceIdentifier::ReadDTCInformation,
-            SubFunction::Given(ReportType::ReportDTCByStatusMask),
+            Some(ReportType::ReportDTCByStatusMask),
             Takes::Plain(Numbers::One(mask), Data::Absent),
         ),
     }

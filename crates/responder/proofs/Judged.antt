@@ -1,13 +1,12 @@
 -- What the rows of the services are judged to be, check by check.
-use Prim.Native.Nat.{ℕ, ◌+◌, ◌≤◌, ◌<◌}
-use native.Mathlib.Omega.{arith}
+use Prim.Native.Nat.{ℕ, ◌≤◌}
 use mathlib.Core.Bool.{Bool, true, false, cond}
-use mathlib.Core.Path.{◌≡◌, refl, sym, ◌∙◌, ap}
+use mathlib.Core.Path.{◌≡◌, refl, ◌∙◌}
 use mathlib.Core.List.{List, [], ◌∷◌, ◌++◌}
 use borrow.Author.Tests.{le-leb}
 use lib.Dec.{leb, eqb}
 use lib.ListN.{length, get_or}
-use Rattle.rules.specs.InOrder.{Check, unless, judge}
+use Rattle.rules.specs.InOrder.{Check, unless}
 use Rattle.rules.specs.Refusals.{between}
 use Rattle.rules.proofs.Judging.{judge-under}
 use Rattle.bench.specs.Responder as bench

@@ -4,10 +4,10 @@ use native.Mathlib.Omega.{arith}
 use mathlib.Core.Bool.{Bool, true, false, cond}
 use mathlib.Core.Path.{◌≡◌, refl, sym, ◌∙◌, ap, ap₂, subst}
 use mathlib.Core.Logic.{◌≢◌}
-use mathlib.Core.List.{List, [], ◌∷◌, ◌++◌}
+use mathlib.Core.List.{List, ◌++◌}
 use borrow.Author.Tests.{le-leb, lt-leb, eqb-true, eqb-false, eq-eqb, ne_eqb}
 use lib.Dec.{leb, eqb}
-use lib.ListN.{length, get_or, take, drop, length-append, length-drop}
+use lib.ListN.{length, get_or, drop, length-append, length-drop}
 use lib.Seq.{take-append_seam, drop-append-add, drop-drop}
 use Rattle.bench.specs.Responder as bench
 use Rattle.bench.specs.Responder.{Responded, refuses, grants, keeps_silent, decision, reply_to, place, stored, response_to, answering, respond}
@@ -15,12 +15,13 @@ use Rattle.bench.specs.Stores.{store_of, put}
 use Rattle.wire.specs.Buffers.{with}
 use Rattle.responder.specs.declared.Decision.{Decision}
 use Rattle.responder.specs.declared.Decision.TheVariants.{Refuse, KeepSilent, Session, Reset, Present, Count, ReadRecord, WriteRecord, ReadMemory}
-use Rattle.responder.specs.declared.Response.{Response}
-use Rattle.responder.specs.declared.Response.TheVariants.{Replied, Silent, Refused}
-use Rattle.responder.specs.Decided.{meaning, Unwritten, Written, Decides}
-use Rattle.responder.specs.Responding.{answer_to, Puts, Responds}
+use Rattle.std.specs.Prelude.{Some, None, Ok, Err}
+use Rattle.wire.specs.declared.refusal.Refusal.TheVariants.{ReplyRoom}
+use Rattle.wire.specs.Refusing.{numbered}
+use Rattle.responder.specs.Decided.{meaning, Unwritten, Decides}
+use Rattle.responder.specs.Responding.{Response, answer_to, Puts, Responds}
 
-pub no_room : (bs before : List ℕ) → length before < length bs → Puts bs before (Refused 13) before
+pub no_room : (bs before : List ℕ) → length before < length bs → Puts bs before (Err ReplyRoom) before
 no_room bs before h = record { answer = rw (lt-leb (length bs) (length before) h) refl; buffer = rw (lt-leb (length bs) (length before) h) refl }
 
 -- A piece at the front, and one behind it.
@@ -46,13 +47,13 @@ module _ (head rest before : List ℕ) (fits : length head + length rest ≤ len
       rw (le-leb (length head + length rest) (length (head ++ tail)) room)
       (ap₂ (λ (x y : List ℕ). x ++ rest ++ y) (take-append_seam head tail) (drop-append-add head tail (length rest) ∙ drop-drop (length rest) (length head) before))
 
-  pub put_two : {m after : List ℕ} → m ≡ with before 0 head → after ≡ with m (length head) rest → Puts (head ++ rest) before (Replied (length head + length rest)) after
+  pub put_two : {m after : List ℕ} → m ≡ with before 0 head → after ≡ with m (length head) rest → Puts (head ++ rest) before (Ok (Some (length head + length rest))) after
   put_two {m} {after} e k =
       let many = length-append head rest in
       let yes = le-leb (length (head ++ rest)) (length before) (omega arith) in
       let stands = second (k ∙ ap (λ (x : List ℕ). with x (length head) rest) (first e)) in
       record {
-        answer = rw yes (ap Replied (sym many));
+        answer = rw yes (ap (λ (n : ℕ). Ok (Some n)) (sym many));
         buffer = rw yes (stands ∙ ap (λ (n : ℕ). head ++ rest ++ drop n before) (sym many));
       }
 
@@ -72,9 +73,9 @@ module _ (l q before : List ℕ) where
       wrote : Responded
       wrote = bench.responded (response_to q y) (reply_to q y ++ drop (length (reply_to q y)) before) (stored l q y)
 
-      go : (b : Bool) → r ≡ cond b (Replied (length (reply_to q y))) (Refused 13) → after ≡ cond b (reply_to q y ++ drop (length (reply_to q y)) before) before → area ≡ cond b (stored l q y) l →
+      go : (b : Bool) → numbered r ≡ cond b (Ok (Some (length (reply_to q y)))) (Err 13) → after ≡ cond b (reply_to q y ++ drop (length (reply_to q y)) before) before → area ≡ cond b (stored l q y) l →
           let z = cond b wrote (bench.responded (bench.refused 13) before l) in
-          (r ≡ answer_to z.response) × (area ≡ z.store) × (after ≡ z.buffer)
+          (numbered r ≡ answer_to z.response) × (area ≡ z.store) × (after ≡ z.buffer)
       go true h k m = (h ∙ sym (ap answer_to said), m, k)
       go false h k m = (h, m, k)
 
@@ -89,9 +90,9 @@ module _ (l q before : List ℕ) where
   left Reset D u = unchanged D.writes
   left Present D u = unchanged D.writes
   left Count D u = unchanged D.writes
-  left (ReadRecord at n) D u = unchanged D.writes
+  left (ReadRecord p) D u = unchanged D.writes
   left (WriteRecord at) D u = absurd u
-  left (ReadMemory at n) D u = unchanged D.writes
+  left (ReadMemory p) D u = unchanged D.writes
 
   either : (b : Bool) {x : List ℕ} → x ≡ l → l ≡ cond b x l
   either true e = sym e
@@ -104,7 +105,7 @@ module _ (l q before : List ℕ) where
       responds (meaning l q d) D.means said (subst (λ (b : List ℕ). Puts b before r after) is p)
       (either (leb (length (reply_to q (meaning l q d))) (length before)) (left d D u))
 
-  pub silent : Decides l q KeepSilent → Responds l q before Silent l before
+  pub silent : Decides l q KeepSilent → Responds l q before (Ok None) l before
   unfolding respond
   silent D =
       let none : 0 ≤ length before = omega arith in
@@ -137,5 +138,5 @@ module _ (l q before : List ℕ) where
     pub written : {r : Response} {area after : List ℕ} → 3 ≤ length before → Puts says before r after → area ≡ with l at (drop 3 q) → Responds l q before r area after
     written room p e = responds (meaning l q (WriteRecord at)) D.means refl p (writes-there e ∙ rw (le-leb 3 (length before) room) refl)
 
-    pub unwritten : length before < 3 → Responds l q before (Refused 13) l before
+    pub unwritten : length before < 3 → Responds l q before (Err ReplyRoom) l before
     unwritten short = responds (meaning l q (WriteRecord at)) D.means refl (no_room says before short) (rw (lt-leb 3 (length before) short) refl)

@@ -2,22 +2,23 @@
 use Prim.Native.Nat.{ℕ, ◌+◌, ◌-◌, ◌/◌, ◌%◌, ◌≤◌, ◌<◌}
 use native.Mathlib.Omega.{arith}
 use mathlib.Core.Bool.{Bool, true, false, cond, ◌&&◌}
-use mathlib.Core.Path.{◌≡◌, refl, sym, ◌∙◌, ap, subst}
+use mathlib.Core.Path.{◌≡◌, refl, sym, ◌∙◌, ap}
 use mathlib.Core.Logic.{◌≢◌}
 use mathlib.Core.List.{List, [], ◌∷◌, ◌++◌}
 use borrow.Author.Tests.{le-leb, lt-leb, leb-true, eqb-true, eqb-false, eq-eqb, ne_eqb}
 use lib.Dec.{leb, eqb}
-use lib.ListN.{length, get_or, drop, length-take, length-drop, length-append}
+use lib.ListN.{length, get_or, drop, length-take, length-drop, take}
+use Rattle.std.proofs.lemmas.List.{take_all, take_rest, drop-drop}
 use Rattle.rules.specs.Bytes.{value, two, u16_at}
 use Rattle.rules.specs.Logs.{all, area}
 use Rattle.rules.specs.Refusals.{between}
 use Rattle.rules.specs.InOrder.{unless}
-use Rattle.rules.proofs.Judging.{both, judge-ind}
+use Rattle.rules.proofs.Judging.{judge-ind}
 use Rattle.bench.specs.Responder.{refuses, grants, keeps_silent, decision, place}
 use Rattle.bench.specs.Stores.{Slot, store_of, slot_of, known, record_of, inside, memory_at, counted}
 use Rattle.bench.proofs.Written.{record-fits}
-use Rattle.stores.specs.declared.Memory.TheVariants.{Inside, Outside}
-use Rattle.stores.specs.declared.Record.TheVariants.{Known, Unknown}
+use Rattle.std.specs.Prelude.{Some, None}
+use Rattle.stores.specs.declared.Place.{Place}
 use Rattle.stores.specs.Places.{record_in, held_in}
 use Rattle.responder.specs.declared.Decision.{Decision}
 use Rattle.responder.specs.declared.Decision.TheVariants.{Refuse, KeepSilent, Session, Reset, Present, Count, ReadRecord, WriteRecord, ReadMemory}
@@ -83,20 +84,20 @@ module _ (l q : List ℕ) where
     read-wrong-length = inexact 3 (eqb n 3) (known (store_of l) e) (0x62 ∷ named) (record_of (store_of l) e) n (ne_eqb n 3 wrong)
 
   module _ (exact : n ≡ 3) where
-    pub read-unknown : record_in l (u16_at q 1) ≡ Unknown → refuses 0x31 ≡ judged_as l q 0x22
+    pub read-unknown : None ≡ record_in l (u16_at q 1) → refuses 0x31 ≡ judged_as l q 0x22
     unfolding judged_as
     read-unknown h =
         out_of_range 3 (eqb n 3) (known (store_of l) e) (0x62 ∷ named) (record_of (store_of l) e) n (le-leb 3 n (omega arith)) (eq-eqb n 3 exact) (unknown l (u16_at q 1) h)
 
-    module _ {at k : ℕ} (found : record_in l (u16_at q 1) ≡ Known at k) where
-      pub read-too-long : 4092 < k → refuses 0x14 ≡ judged_as l q 0x22
+    module _ {p : Place} (found : Some p ≡ record_in l (u16_at q 1)) where
+      pub read-too-long : 4092 < p.size → refuses 0x14 ≡ judged_as l q 0x22
       unfolding judged_as
       read-too-long h =
           let s = standing l (u16_at q 1) found in
           too_long 3 (eqb n 3) (known (store_of l) e) (0x62 ∷ named) (record_of (store_of l) e) n (le-leb 3 n (omega arith)) (eq-eqb n 3 exact) s.is_known
           (lt-leb (length (0x62 ∷ named ++ record_of (store_of l) e)) 4095 (omega (arith, record-long l (u16_at q 1) s)))
 
-      pub read-granted : k ≤ 4092 → meaning l q (ReadRecord at k) ≡ judged_as l q 0x22
+      pub read-granted : p.size ≤ 4092 → meaning l q (ReadRecord p) ≡ judged_as l q 0x22
       unfolding judged_as
       read-granted h =
           let s = standing l (u16_at q 1) found in
@@ -113,30 +114,30 @@ module _ (l q : List ℕ) where
   write-too-short h = too_short 4 fitting (known (store_of l) e) (0x6e ∷ named) [] n (lt-leb 4 n h)
 
   module _ (least : 4 ≤ n) where
-    pub write-unknown : record_in l (u16_at q 1) ≡ Unknown → refuses 0x31 ≡ judged_as l q 0x2e
+    pub write-unknown : None ≡ record_in l (u16_at q 1) → refuses 0x31 ≡ judged_as l q 0x2e
     unfolding judged_as
     write-unknown h =
         let none = unknown l (u16_at q 1) h in
         out_of_range 4 fitting (known (store_of l) e) (0x6e ∷ named) [] n (le-leb 4 n least) (ap (λ (b : Bool). cond b (eqb n (3 + e.size)) true) none) none
 
-    module _ {at k : ℕ} (found : record_in l (u16_at q 1) ≡ Known at k) where
+    module _ {p : Place} (found : Some p ≡ record_in l (u16_at q 1)) where
       exactly : {b : Bool} → eqb n (3 + e.size) ≡ b → fitting ≡ b
       exactly h = let s = standing l (u16_at q 1) found in ap (λ (t : Bool). cond t (eqb n (3 + e.size)) true) s.is_known ∙ h
 
-      pub write-wrong-length : n - 3 ≢ k → refuses 0x13 ≡ judged_as l q 0x2e
+      pub write-wrong-length : n - 3 ≢ p.size → refuses 0x13 ≡ judged_as l q 0x2e
       unfolding judged_as
       write-wrong-length h =
           let s = standing l (u16_at q 1) found in
           inexact 4 fitting (known (store_of l) e) (0x6e ∷ named) [] n (exactly (ne_eqb n (3 + e.size) (λ z. h (omega (arith, s.size)))))
 
-      module _ (exact : n - 3 ≡ k) where
-        pub write_granted : meaning l q (WriteRecord at) ≡ judged_as l q 0x2e
+      module _ (exact : n - 3 ≡ p.size) where
+        pub write_granted : meaning l q (WriteRecord p.at) ≡ judged_as l q 0x2e
         unfolding judged_as
         write_granted =
             let s = standing l (u16_at q 1) found in
             granted 4 fitting (known (store_of l) e) (0x6e ∷ named) [] n (le-leb 4 n least) (exactly (eq-eqb n (3 + e.size) (omega (arith, s.size)))) s.is_known refl
 
-        pub write-placed : (at ≡ place l q) × (at + length (drop 3 q) ≤ length l)
+        pub write-placed : (p.at ≡ place l q) × (p.at + length (drop 3 q) ≤ length l)
         write-placed =
             let s = standing l (u16_at q 1) found in
             let d = length-drop 3 q in
@@ -168,6 +169,13 @@ module _ (l q : List ℕ) where
   memory-wrong-length h = inexact 4 (eqb n (2 + a + z)) ranged (0x63 ∷ []) (memory_at (store_of l) address size) n (ne_eqb n (2 + a + z) h)
 
   module _ (least : 4 ≤ n) (exact : n ≡ 2 + a + z) where
+    -- The two parts behind the format.
+    pub two-parts : {front back : List ℕ} → front ≡ take a (take (n - 2) (drop 2 q)) → back ≡ drop a (take (n - 2) (drop 2 q)) →
+        held_in l (value front) (value back) ≡ held_in l address size
+    two-parts f b =
+        let all : take z (drop (2 + a) q) ≡ drop (2 + a) q = take_all z (drop (2 + a) q) (omega (arith, length-drop (2 + a) q)) in
+        rw (f, b, take_rest q 2, drop-drop, all)
+
     out : ranged ≡ false → refuses 0x31 ≡ judged_as l q 0x23
     unfolding judged_as
     out h = out_of_range 4 (eqb n (2 + a + z)) ranged (0x63 ∷ []) (memory_at (store_of l) address size) n (le-leb 4 n least) (eq-eqb n (2 + a + z) exact) h
@@ -187,18 +195,18 @@ module _ (l q : List ℕ) where
           go true false h = h
           go false y h = h
 
-      pub memory-outside : held_in l address size ≡ Outside → refuses 0x31 ≡ judged_as l q 0x23
+      pub memory-outside : None ≡ held_in l address size → refuses 0x31 ≡ judged_as l q 0x23
       memory-outside h = out (ranges (no-memory l address size h))
 
-      module _ {at k : ℕ} (held : held_in l address size ≡ Inside at k) where
-        pub memory-too-long : 4094 < k → refuses 0x14 ≡ judged_as l q 0x23
+      module _ {p : Place} (held : Some p ≡ held_in l address size) where
+        pub memory-too-long : 4094 < p.size → refuses 0x14 ≡ judged_as l q 0x23
         unfolding judged_as
         memory-too-long h =
             let s = remembered l address size held in
             too_long 4 (eqb n (2 + a + z)) ranged (0x63 ∷ []) (memory_at (store_of l) address size) n (le-leb 4 n least) (eq-eqb n (2 + a + z) exact) (ranges s.is_held)
             (lt-leb (length (0x63 ∷ memory_at (store_of l) address size)) 4095 (omega (arith, memory-long l address size s)))
 
-        pub memory-granted : k ≤ 4094 → meaning l q (ReadMemory at k) ≡ judged_as l q 0x23
+        pub memory-granted : p.size ≤ 4094 → meaning l q (ReadMemory p) ≡ judged_as l q 0x23
         unfolding judged_as
         memory-granted h =
             let s = remembered l address size held in

@@ -21,9 +21,9 @@ meaning l q Session = grants (0x50 ∷ sub_in q ∷ []) (store_of l).session
 meaning l q Reset = grants (0x51 ∷ sub_in q ∷ []) (cond (eqb (sub_in q) 4) ((store_of l).power_down ∷ []) [])
 meaning l q Present = grants (0x7e ∷ 0x00 ∷ []) []
 meaning l q Count = grants (0x59 ∷ 0x01 ∷ []) ((store_of l).mask ∷ (store_of l).format ∷ two (counted (store_of l) (get_or q 2 0)))
-meaning l q (ReadRecord at n) = grants (0x62 ∷ get_or q 1 0 ∷ get_or q 2 0 ∷ []) (area l at n)
+meaning l q (ReadRecord p) = grants (0x62 ∷ get_or q 1 0 ∷ get_or q 2 0 ∷ []) (area l p.at p.size)
 meaning l q (WriteRecord at) = grants (0x6e ∷ get_or q 1 0 ∷ get_or q 2 0 ∷ []) []
-meaning l q (ReadMemory at n) = grants (0x63 ∷ []) (area l at n)
+meaning l q (ReadMemory p) = grants (0x63 ∷ []) (area l p.at p.size)
 
 -- What a request is judged to be as one of this service.
 unfoldable pub judged_as : List ℕ → List ℕ → ℕ → bench.Decision
@@ -44,9 +44,9 @@ Unwritten Session = Unit {0}
 Unwritten Reset = Unit {0}
 Unwritten Present = Unit {0}
 Unwritten Count = Unit {0}
-Unwritten (ReadRecord at n) = Unit {0}
+Unwritten (ReadRecord p) = Unit {0}
 Unwritten (WriteRecord at) = ⊥
-Unwritten (ReadMemory at n) = Unit {0}
+Unwritten (ReadMemory p) = Unit {0}
 
 -- A negative, or a write: it has its record's place, which has room for the request's bytes.
 abbrev pub Written : List ℕ → List ℕ → Decision → Type 0
@@ -56,9 +56,9 @@ Written l q Session = ⊥
 Written l q Reset = ⊥
 Written l q Present = ⊥
 Written l q Count = ⊥
-Written l q (ReadRecord at n) = ⊥
+Written l q (ReadRecord p) = ⊥
 Written l q (WriteRecord at) = (at ≡ place l q) × (at + length (drop 3 q) ≤ length l)
-Written l q (ReadMemory at n) = ⊥
+Written l q (ReadMemory p) = ⊥
 
 -- The definition's decision; a write exactly for 2E.
 pub record Decides (l q : List ℕ) (r : Decision) : Type 0 where

@@ -1,5 +1,7 @@
 -- What the responder's code promises, of its answer and of what stands afterwards in buffer and store: at most one fits, and both ends together as `bench` says.
-use Rattle.std.specs.Prelude.{ℕ, ◌≤◌, true, ◌≡◌, List, length, take}
+use Rattle.std.specs.Prelude.{ℕ, ◌≤◌, true, ◌≡◌, List, length, take, Some, None, Ok, Err}
+use Rattle.wire.specs.declared.refusal.Refusal.{Refusal}
+use Rattle.wire.specs.Refusing.{refusal_number}
 use Rattle.rules.specs.Answers.{Part, part, positive}
 use Rattle.rules.specs.Bytes.{every, is_byte}
 use Rattle.rules.specs.Calls.{Call, read_identifier, write_identifier}
@@ -12,20 +14,17 @@ use Rattle.rules.specs.Writing.{Sayable}
 use Rattle.bench.specs.Promise.{Served, Taken, sends, decides, at_once, lent_by, expected, Asks, InTime}
 use Rattle.bench.specs.Responder as bench
 use Rattle.bench.specs.Stores.{SoundStore}
-use Rattle.responder.specs.declared.Response.{Response}
-use Rattle.responder.specs.declared.Response.TheVariants.{Replied, Silent, Refused}
-use Rattle.responder.specs.Responding.{Responds}
+use Rattle.responder.specs.Responding.{Response, Responds}
 
 -- What the answer and the buffer say.
 abbrev pub said_by : Response → List ℕ → bench.Response
-said_by (Replied n) after = bench.replied (take n after)
-said_by Silent after = bench.silent
-said_by (Refused n) after = bench.refused n
+said_by (Ok (Some n)) after = bench.replied (take n after)
+said_by (Ok None) after = bench.silent
+said_by (Err r) after = bench.refused (refusal_number r)
 
 abbrev pub Answered : Response → Type 0
-Answered (Replied n) = Unit {0}
-Answered Silent = Unit {0}
-Answered (Refused n) = ⊥
+Answered (Ok x) = Unit {0}
+Answered (Err r) = ⊥
 
 pub record Promises : Type 0 where
   pub unique : {l q before : List ℕ} {r r' : Response} {area area' after after' : List ℕ} → Responds l q before r area after → Responds l q before r' area' after'
@@ -34,7 +33,7 @@ pub record Promises : Type 0 where
   pub stands : {l q before : List ℕ} {r : Response} {area after : List ℕ} → Responds l q before r area after → said_by r after ≡ (bench.respond l q before).response
   -- The store that it leaves is as sound as the one that it got, and a refusal leaves everything.
   pub stays-sound : {l q before : List ℕ} {r : Response} {area after : List ℕ} → Responds l q before r area after → SoundStore l → every is_byte q ≡ true → SoundStore area
-  pub refused-keeps : {l q before : List ℕ} {n : ℕ} {area after : List ℕ} → Responds l q before (Refused n) area after → (n ≡ 13) × (area ≡ l) × (after ≡ before)
+  pub refused-keeps : {l q before : List ℕ} {r : Refusal} {area after : List ℕ} → Responds l q before (Err r) area after → (refusal_number r ≡ 13) × (area ≡ l) × (after ≡ before)
   pub roomy : {l q before : List ℕ} {r : Response} {area after : List ℕ} → Responds l q before r area after → 4095 ≤ length before → Answered r
   -- Both ends together: what the code answered to what a client sent begins with a conversation, and the client answers as expected, never a deviation.
   pub converses : (w : Setting) (c : Call) {l before : List ℕ} {r : Response} {area after : List ℕ} → Responds l (sends w c) before r area after → Served c → Taken c → SoundStore l → Answered r

@@ -13,9 +13,7 @@ use exchange::types::Timing;
 pub fn handed_out<'r>(answered: Answered, replies: &'r [u8]) -> &'r [u8]
     ensures { result.now ≡ handed_of answered replies.now }
 {
-    let answer = answered.answer;
-    let outcome = answer.outcome;
-    checks::data(outcome, replies)
+    checks::data(answered.answer.outcome, replies)
 }
 
 // The answer, and the data that it hands out.
@@ -42,17 +40,16 @@ pub fn call<'r>(
         request.new) × (result.bytes.now ≡ handed_of result.answer replies.now) ×
         (session.new ≡ result.answer.timing) }
 {
-    let a = calls::run(*session, ask, request, address, size, data, events, replies);
-    let d = handed_out(a, replies);
-    *session = a.timing;
+    let answer = calls::run(*session, ask, request, address, size, data, events, replies);
+    *session = answer.timing;
     Handed {
-        answer: a,
-        bytes: d,
+        answer,
+        bytes: handed_out(answer, replies),
     }
 }
 
-// A call in a session that is kept by value, for callers that are proved with no walk: the record is this function's own, and is lent to `call`.
-// The session afterwards is the answer's.
+// A call in a session that is kept by value, for a caller with no session record to lend, as the door, which is handed the two times: the record is
+// this function's own, and is lent to `call`. The session afterwards is the answer's.
 pub fn in_session(
     mut session: Timing,
     ask: Ask,

@@ -1,42 +1,25 @@
 -- The state's numbers as the engine that they keep, and as what they ask.
-use Prim.Native.Nat.{ℕ, ◌%◌, ◌≤◌, ◌<◌}
+use Prim.Native.Nat.{ℕ, zero, suc, ◌+◌}
 use native.Mathlib.Omega.{arith}
-use mathlib.Core.Bool.{true, false}
-use mathlib.Core.Path.{◌≡◌, sym, ◌∙◌, ap, subst⁻¹}
-use mathlib.Core.List.{List, ◌∷◌}
-use lib.Dec.{leb}
-use borrow.Author.Tests.{le-leb, lt-leb}
-use Rattle.rules.specs.Logs.{Header}
-use Rattle.calls.specs.declared.Ask.{Ask}
-use Rattle.log_call.specs.Asking.{AskedBy}
-use Rattle.log_call.specs.declared.Fields.{Fields}
-use Rattle.log_call.specs.declared.Fields.TheVariants as fields
+use mathlib.Core.Path.{◌≡◌, sym, ◌∙◌, ap}
+use mathlib.Core.List.{List, ◌∷◌, ◌++◌}
+use lib.ListN.{length, drop, drop_of_length-le}
+use lib.Seq.{drop-cons}
 use Rattle.steps.specs.declared.Engine.{Engine}
 use Rattle.steps.specs.declared.Phase.{Phase}
 use Rattle.steps.specs.declared.Phase.TheVariants.{Waiting, Settled}
 use Rattle.numbers.proofs.Telling.{tells-unique}
-use Rattle.door.specs.Door.{limit_for, limited_to}
-use Rattle.door.proofs.Asking.{told_of}
-use Rattle.state_numbers.specs.Kept.{number, nine, fifteen, header_in, sound, AskedIn, Told}
+use Rattle.state_numbers.specs.Kept.{number, nine, fifteen, Told}
 
-pub told_in : (e : Engine) (a l : List ℕ) {p : Phase} → e.phase ≡ p → Told e a p l → Told e a e.phase l
-told_in e a l is h = subst⁻¹ (λ (p : Phase). Told e a p l) is h
+-- So many numbers of an array from one on, and then others.
+abbrev pub listed : ℕ → ℕ → List ℕ → List ℕ → List ℕ
+listed zero i a rest = rest
+listed (suc n) i a rest = number a i ∷ listed n (suc i) a rest
 
-module _ (l : List ℕ) where
-  pub no-such-call : {n : ℕ} → n ≡ number l 19 % 256 → 15 < n → sound l ≡ false
-  no-such-call e h = rw (lt-leb (number l 19 % 256) 15 (omega (arith, e, h)))
-
-  module _ {n : ℕ} (is : n ≡ number l 19 % 256) (known : n ≤ 15) {made : Header} (made-is : made ≡ header_in l) where
-    listed : leb (number l 19 % 256) 15 ≡ true
-    listed = le-leb (number l 19 % 256) 15 (omega (arith, is, known))
-
-    pub asks-none-in : {x : Fields} → x ≡ fields.Unsound → AskedBy made x → sound l ≡ false
-    asks-none-in f k = rw (listed, told_of {h = header_in l} made-is f k)
-
-    pub asks-in : {x : Fields} {ask r : Ask} {k : ℕ} → x ≡ fields.Ask ask → AskedBy made x → k ≡ number l 24 % 65536 → r ≡ limited_to (limit_for k) ask → AskedIn l (fields.Ask r)
-    asks-in {ask = ask} f h limit e =
-        let asks = told_of {h = header_in l} made-is f h in
-        (rw (listed, asks.0), ask, asks.1, e ∙ ap (λ n. limited_to (limit_for n) ask) limit)
+-- An array is its numbers, one by one.
+pub listed-are : (n i : ℕ) (a rest : List ℕ) → i + n ≡ length a → drop i a ++ rest ≡ listed n i a rest
+listed-are zero i a rest e = rw (drop_of_length-le a {i = i} (omega arith))
+listed-are (suc n) i a rest e = rw (drop-cons a i 0 (omega arith)) (ap (λ (q : List ℕ). number a i ∷ q) (listed-are n (suc i) a rest (omega arith)))
 
 -- At most one list of numbers keeps an engine.
 pub told-unique : (e : Engine) (a : List ℕ) (p : Phase) {l l' : List ℕ} → Told e a p l → Told e a p l' → l ≡ l'

@@ -1,13 +1,13 @@
 -- The state of the engine as the twenty-eight numbers that a host keeps.
 -- The first fifteen are an answer's, with 11 for the outcome, the deadline and the counts so far while the engine waits. Then the last time, `hush`, the counts up to T; and what was asked.
+use Rattle.std.specs.Prelude as code
+use Rattle.std.specs.Prelude.{Some, None}
 use Rattle.std.specs.Prelude.{ℕ, ◌%◌, ◌^◌, Bool, true, false, cond, ◌&&◌, ◌≡◌, List, [], ◌∷◌, leb, eqb, get_or}
 use Rattle.rules.specs.Logs.{Header, uses_of, fields_ok}
 use Rattle.exchange.specs.declared.types.State.{State}
 use Rattle.exchange.specs.declared.types.Timing.{Timing}
 use Rattle.calls.specs.declared.Ask.{Ask}
 use Rattle.log_call.specs.Asking.{Asks}
-use Rattle.log_call.specs.declared.Fields.{Fields}
-use Rattle.log_call.specs.declared.Fields.TheVariants as asked
 use Rattle.steps.specs.declared.Engine.{Engine}
 use Rattle.steps.specs.declared.Phase.{Phase}
 use Rattle.steps.specs.declared.Phase.TheVariants.{Waiting, Settled}
@@ -56,9 +56,9 @@ header_in l =
 abbrev pub sound : List ℕ → Bool
 sound l = let h = header_in l in leb h.call 15 && fields_ok h (uses_of h.call)
 
-abbrev pub AskedIn : List ℕ → Fields → Type 0
-AskedIn l (asked.Ask r) = (sound l ≡ true) × (ask : Ask) × Asks (header_in l) ask × (r ≡ limited_to (limit_for (number l 24 % 65536)) ask)
-AskedIn l asked.Unsound = sound l ≡ false
+abbrev pub AskedIn : List ℕ → (code.Option Ask) → Type 0
+AskedIn l (Some r) = (sound l ≡ true) × (ask : Ask) × Asks (header_in l) ask × (r ≡ limited_to (limit_for (number l 24 % 65536)) ask)
+AskedIn l None = sound l ≡ false
 
 abbrev pub session_in : List ℕ → Timing
 session_in l = record { p2 = number l 12 % 2 ^ 32; star = number l 13 % 2 ^ 32 }

@@ -2,104 +2,77 @@
 // The first fifteen are an answer's. While the engine waits, 11 stands for the outcome, and the deadline, the events read and the notices stand where the answer's time and counts will.
 #![tactic(auto)]
 
-ghost use Rattle.std.specs.Prelude.{◌≡◌, ◌%◌};
-ghost use Rattle.state_numbers.specs.Kept.{is_set, bit, AskedIn, asking_in, engine_in, Told};
+ghost use Rattle.std.specs.Prelude.{◌≡◌, ◌++◌};
+ghost use Rattle.logs.specs.Layout.{said};
+ghost use Rattle.state_numbers.specs.Kept.{nine, fifteen, header_in, AskedIn, asking_in, engine_in, Told};
 
 use calls::Ask;
 use door::{fields, limited};
 use exchange::types::{Count, State, Timing};
-use log_call::{Fields, ask_of};
+use log_call::ask_of;
+use logs::header::Header;
 use numbers::numbers;
 use steps::{Begun, Engine, Phase};
 
 pub const WAITING: u64 = 11;
 
-pub fn byte(n: u64) -> u8
-    ensures { result ≡ n % 256 }
+// What was asked as a log's header would have it, each number as wide as its field is.
+fn header_in(state: [u64; 28]) -> Header
+    ensures { said result ≡ header_in state }
 {
-    (n % 256) as u8
+    fields(
+        (state[19] % 256) as u8,
+        (state[20] % 256) as u8,
+        (state[21] % 65536) as u16,
+        (state[22] % 256) as u8,
+        0,
+        0,
+        (state[12] % 4294967296) as u32,
+        (state[13] % 4294967296) as u32,
+        (state[23] % 4294967296) as u32,
+        true,
+        (state[25] % 65536) as u16,
+    )
 }
 
-fn two_bytes(n: u64) -> u16
-    ensures { result ≡ n % 65536 }
-{
-    (n % 65536) as u16
-}
-
-fn four_bytes(n: u64) -> u32
-    ensures { result ≡ n % 4294967296 }
-{
-    (n % 4294967296) as u32
-}
-
-fn is_set(n: u64) -> bool
-    ensures { result ≡ is_set n }
-{
-    if n == 0 { false } else { true }
-}
-
-fn bit(b: bool) -> u64
-    ensures { result ≡ bit b }
-{
-    if b { 1 } else { 0 }
-}
-
-// What the state's numbers ask, each as wide as its field is.
-pub fn ask_in(state: [u64; 28]) -> Fields
+// What the state's numbers ask.
+pub fn ask_in(state: [u64; 28]) -> Option<Ask>
     ensures { AskedIn state result }
 {
-    let call = byte(state[19]);
-    if call > 15 {
-        return Fields::Unsound;
+    let h = header_in(state);
+    if h.call > 15 {
+        return None;
     }
-    let h = fields(
-        call,
-        byte(state[20]),
-        two_bytes(state[21]),
-        byte(state[22]),
-        0,
-        0,
-        four_bytes(state[12]),
-        four_bytes(state[13]),
-        four_bytes(state[23]),
-        true,
-        two_bytes(state[25]),
-    );
-    match ask_of(h) {
-        Fields::Ask(ask) => Fields::Ask(limited(ask, two_bytes(state[24]))),
-        Fields::Unsound => Fields::Unsound,
-    }
+    let ask = ask_of(h)?;
+    Some(limited(ask, (state[24] % 65536) as u16))
 }
 
 // The engine that waits, as the state has it.
 pub fn engine_in(ask: Ask, state: [u64; 28]) -> Engine
     ensures { result ≡ engine_in ask state }
 {
-    let session = Timing {
-        p2: four_bytes(state[12]),
-        star: four_bytes(state[13]),
-    };
-    let begun = Begun {
-        ask,
-        session,
-        sent: state[14] as usize,
-    };
-    let waiting = State {
-        hush: is_set(state[16]),
-        deadline: state[4],
-        read: Count {
-            all: state[5] as usize,
-            early: state[17] as usize,
-        },
-        notices: Count {
-            all: state[6] as usize,
-            early: state[18] as usize,
-        },
-    };
     Engine {
-        begun,
+        begun: Begun {
+            ask,
+            session: Timing {
+                p2: (state[12] % 4294967296) as u32,
+                star: (state[13] % 4294967296) as u32,
+            },
+            sent: state[14] as usize,
+        },
         last: state[15],
-        phase: Phase::Waiting(waiting),
+        phase: Phase::Waiting(State {
+            hush: state[16] != 0,
+            deadline: state[4],
+            read: Count {
+                all: state[5] as usize,
+                early: state[17] as usize,
+            },
+            notices: Count {
+                all: state[6] as usize,
+                early: state[18] as usize,
+            },
+        }),
     }
 }
 
@@ -108,86 +81,54 @@ pub fn engine_in(ask: Ask, state: [u64; 28]) -> Engine
 pub fn asking(state: [u64; 28]) -> [u64; 9]
     ensures { result ≡ asking_in state }
 {
-    [
-        state[19], state[20], state[21], state[22], state[23], state[24], state[25], state[26],
-        state[27],
-    ]
+    let mut asked = [0; 9];
+    asked.copy_from_slice(&state[19..]);
+    asked
+}
+
+// The state: an answer's numbers, then the last time, `hush` and the counts up to T, and what was asked.
+fn laid(answer: [u64; 15], early: [u64; 4], asked: [u64; 9]) -> [u64; 28]
+    ensures { result ≡ fifteen answer (early ++ nine asked) }
+{
+    let mut state = [0; 28];
+    state[19..].copy_from_slice(&asked);
+    state[15..19].copy_from_slice(&early);
+    state[..15].copy_from_slice(&answer);
+    state
 }
 
 // The engine as numbers.
-pub fn told(engine: Engine, a: [u64; 9]) -> [u64; 28]
-    ensures { Told engine a engine.phase result }
+pub fn told(engine: Engine, asked: [u64; 9]) -> [u64; 28]
+    ensures { Told engine asked engine.phase result }
 {
     let begun = engine.begun;
-    let phase = engine.phase;
-    match phase {
-        Phase::Waiting(s) => {
-            let session = begun.session;
-            let read = s.read;
-            let notices = s.notices;
+    match engine.phase {
+        Phase::Waiting(s) => laid(
             [
                 WAITING,
                 0,
                 0,
                 0,
                 s.deadline,
-                read.all as u64,
-                notices.all as u64,
+                s.read.all as u64,
+                s.notices.all as u64,
                 0,
                 0,
                 0,
                 0,
                 0,
-                session.p2 as u64,
-                session.star as u64,
+                begun.session.p2 as u64,
+                begun.session.star as u64,
                 begun.sent as u64,
-                engine.last,
-                bit(s.hush),
-                read.early as u64,
-                notices.early as u64,
-                a[0],
-                a[1],
-                a[2],
-                a[3],
-                a[4],
-                a[5],
-                a[6],
-                a[7],
-                a[8],
-            ]
-        }
-        Phase::Settled(x) => {
-            let n = numbers(x);
+            ],
             [
-                n[0],
-                n[1],
-                n[2],
-                n[3],
-                n[4],
-                n[5],
-                n[6],
-                n[7],
-                n[8],
-                n[9],
-                n[10],
-                n[11],
-                n[12],
-                n[13],
-                n[14],
                 engine.last,
-                0,
-                0,
-                0,
-                a[0],
-                a[1],
-                a[2],
-                a[3],
-                a[4],
-                a[5],
-                a[6],
-                a[7],
-                a[8],
-            ]
-        }
+                u64::from(s.hush),
+                s.read.early as u64,
+                s.notices.early as u64,
+            ],
+            asked,
+        ),
+        Phase::Settled(x) => laid(numbers(x), [engine.last, 0, 0, 0], asked),
     }
 }

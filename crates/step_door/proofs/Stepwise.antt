@@ -1,4 +1,5 @@
 -- Request Eleven's promise, carried to the numbers of the door: begun and handed a list's events and any ticks, the state's first fifteen numbers are those of `bintrochis_door_call` over the list.
+use Rattle.std.specs.Prelude.{Some}
 use Prim.Native.Nat.{ℕ, ◌+◌, ◌*◌, ◌/◌, ◌%◌, ◌^◌, ◌≤◌, ◌<◌}
 use native.Mathlib.Nat.{mod-eq_of_lt}
 use native.Mathlib.Omega.{arith}
@@ -23,14 +24,13 @@ use Rattle.rules.proofs.Judging.{both}
 use Rattle.stepwise.specs.Driven.{InOrder}
 use Rattle.stepwise.specs.Engine.{tick}
 use Rattle.stepwise.specs.Handed.{Handed, lent, now, input_of, Handing}
-use Rattle.exchange.specs.Meaning.{outcome_of, part_of, overall_of}
+use Rattle.exchange.specs.Meaning.{outcome_of, part_of, option_of}
 use Rattle.exchange.specs.States.{under_of}
 use Rattle.exchange.specs.declared.types.Answer.{Answer}
 use Rattle.exchange.specs.declared.types.Turn.{Turn}
 use Rattle.exchange.specs.declared.types.Turn.TheVariants.{On, Ends}
 use Rattle.requests.specs.Meaning.{call_of}
-use Rattle.requests.specs.Prepared.{prepared_of, over}
-use Rattle.requests.specs.declared.Prepared.{Prepared}
+use Rattle.requests.specs.Prepared.{refusal_of, over}
 use Rattle.requests.specs.declared.Call.{Call}
 use Rattle.requests.specs.declared.Call.TheVariants as call
 use Rattle.checks.specs.Answered as checks
@@ -40,16 +40,14 @@ use Rattle.calls.specs.Meaning.{setting_of, lent_of, result_of, Called}
 use Rattle.calls.specs.declared.Ask.{Ask}
 use Rattle.calls.specs.declared.Answered.{Answered}
 use Rattle.log_call.specs.Asking.{session_of, Asks}
-use Rattle.log_call.specs.declared.Fields.TheVariants as asked
 use Rattle.steps.specs.declared.Begun.{Begun}
 use Rattle.steps.specs.declared.Engine.{Engine}
 use Rattle.steps.specs.declared.Phase.{Phase}
 use Rattle.steps.specs.declared.Phase.TheVariants.{Waiting, Settled}
-use Rattle.steps.specs.declared.Stepped.{Stepped}
-use Rattle.steps.specs.Stepping.{overall_in, past_of, refusing, late_of, going_on, ticked, tick_of, without_turn, Behind, HandsTo, HandsIn, Hands, Begins}
+use Rattle.steps.specs.Stepping.{Stepped, overall_in, past_of, refusing, late_of, going_on, ticked, tick_of, without_turn, Behind, HandsTo, HandsIn, Hands, Begins}
 use Rattle.steps.specs.Running as running
 use Rattle.steps.proofs.Phases.{ticks, hands}
-use Rattle.steps.proofs.Promises.{stays, refused-alike, written, answers-so}
+use Rattle.steps.proofs.Promises.{stays, refused-alike, refuses-so, written, answers-so}
 use Rattle.steps.proofs.Unique.{refused-event, refused-tick}
 use Rattle.door.specs.Door.{fields, is_limit, fits, asks_one, data_in, limit_for, limited_to}
 use Rattle.numbers.specs.Numbers.{values_of, numbers_of, Tells}
@@ -315,7 +313,7 @@ module _ (call flags value sub alen slen p2 star overall listens k : ℕ) where
           λ i. fields (mod-eq_of_lt range.call i) (mod-eq_of_lt range.flags i) (mod-eq_of_lt range.value i) (mod-eq_of_lt range.sub i) 0 0
           (mod-eq_of_lt range.p2 i) (mod-eq_of_lt range.star i) (mod-eq_of_lt range.overall i) true (mod-eq_of_lt range.listens i)
 
-      asked_in : AskedIn l (asked.Ask asked-for)
+      asked_in : AskedIn l (Some asked-for)
       asked_in = (
         ap (λ (q : Header). leb q.call 15 && fields_ok q (uses_of q.call)) header_is ∙ rw (known, bare-suits suits),
         ask,
@@ -409,7 +407,7 @@ module _ (call flags value sub alen slen p2 star overall listens k : ℕ) where
         go (Waiting s) told =
             let deadline : number l 4 ≡ s.deadline = ap (λ (q : List ℕ). number q 4) told in
             let limit : overall_in e ≡ some? (eqb (flag 8 h) 1) overall =
-            ap (λ (b : Begun). overall_of b.ask.overall) kept.0 ∙ ap (λ (w : Setting). w.overall) asks.setting
+            ap (λ (b : Begun). option_of b.ask.overall) kept.0 ∙ ap (λ (w : Setting). w.overall) asks.setting
             in
             (λ i. past_of (limit i) (sym deadline i) last) ∙ due (ap waits told)
 
@@ -478,16 +476,16 @@ module _ (call flags value sub alen slen p2 star overall listens k : ℕ) where
     ran : (e : Engine) × running.Steps (take alen (drop 2 request')) (take slen (drop (2 + alen) request')) hs first e × Kept e l₁
     ran = own-run range suits fitting.0 asks number-sent request' hs first l₀ l₁ kept-first steps
 
-    abbrev prepared : Prepared
-    prepared = prepared_of ask.call ask.quiet a s d (length request)
+    abbrev refusal : ℕ
+    refusal = refusal_of ask.quiet (call_of ask.call a s d) (length request)
 
     -- With address and size as they were given: refused it has settled at once; else they stand in the request.
     ran-so : running.Steps a s hs first ran.0
-    ran-so = go (eqb prepared.refusal 0) refl
+    ran-so = go (eqb refusal 0) refl
       where
-        go : (b : Bool) → eqb prepared.refusal 0 ≡ b → running.Steps a s hs first ran.0
+        go : (b : Bool) → eqb refusal 0 ≡ b → running.Steps a s hs first ran.0
         go true b =
-            let is = written (session_of h) asked-for' a s d request (eqb-true prepared.refusal 0 b) begun-so in
+            let is = written (session_of h) asked-for' a s d request (eqb-true refusal 0 b) begun-so in
             let begun' = begun range suits fitting.0 asks number-sent in
             let alike : Alike (take alen (drop 2 request')) (take slen (drop (2 + alen) request')) a s begun' =
             λ part.
@@ -496,7 +494,8 @@ module _ (call flags value sub alen slen p2 star overall listens k : ℕ) where
             in
             runs-alike (take alen (drop 2 request')) (take slen (drop (2 + alen) request')) a s begun' alike hs first ran.0 kept-first.0 ran.1
         go false b =
-            let rest = refused-alike (session_of h) asked-for' a s d request (eqb-false prepared.refusal 0 b) begun-so in
+            let r = refuses-so (session_of h) asked-for' a s d request (eqb-false refusal 0 b) begun-so in
+            let rest = refused-alike (session_of h) asked-for' a s d request r.0 r.1 begun-so in
             let same = stays (take alen (drop 2 request')) (take slen (drop (2 + alen) request')) hs first ran.0 rest.0 ran.1 in
             subst (running.Steps a s hs first) same (rests a s hs first rest.0)
 

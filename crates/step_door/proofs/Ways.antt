@@ -1,4 +1,6 @@
--- The ways of a step through the door, the ways to begin, and that at most one answer fits each.
+-- A step through the door that the engine takes or refuses, a call that is begun, and that at most one answer fits each.
+use Rattle.std.specs.Prelude as code
+use Rattle.std.specs.Prelude.{Some, None}
 use Prim.Native.Nat.{ℕ, ◌%◌}
 use native.Mathlib.Omega.{arith}
 use mathlib.Core.Bool.{Bool, true, false, true≢false}
@@ -15,38 +17,23 @@ use Rattle.requests.specs.Meaning.{call_of, call_from}
 use Rattle.calls.specs.declared.Ask.{Ask}
 use Rattle.log_call.specs.Asking.{chosen, session_of, Asks}
 use Rattle.log_call.proofs.Unique.{asks-unique}
-use Rattle.log_call.specs.declared.Fields.{Fields}
-use Rattle.log_call.specs.declared.Fields.TheVariants as fields
-use Rattle.steps.specs.Stepping.{tick_of, Hands, Begins}
+use Rattle.steps.specs.Stepping.{Stepped, tick_of, Hands, Begins}
 use Rattle.steps.proofs.Unique.{begin-unique, event-unique}
 use Rattle.steps.specs.declared.Engine.{Engine}
-use Rattle.steps.specs.declared.Stepped.{Stepped}
 use Rattle.door.specs.Door.{limit_for, limited_to, address_in, size_in, data_in}
-use Rattle.state_numbers.specs.Kept.{number, waits, sound, AskedIn, asking_in, engine_in, Told}
+use Rattle.state_numbers.specs.Kept.{number, waits, AskedIn, asking_in, engine_in, Told}
 use Rattle.state_numbers.proofs.Keeping.{told-unique}
 use Rattle.step_door.specs.Stepping as stepping
 use Rattle.step_door.specs.Stepping.{Retold, Through, Ticked, Handed, BegunAs}
 
--- The ways of a step through the door.
+-- A step through the door that reaches the engine.
 module _ (l : List ℕ) (S : Engine → Stepped → Type 0) where
-  pub was_settled : (number l 0 ≡ 11 → ⊥) → Through l S 21 l
-  was_settled h =
-      let rests = ne_eqb (number l 0) 11 h in
-      record { settled = λ w. (refl, refl); unasked = λ w. absurd (true≢false (sym w ∙ rests)); steps = λ w. absurd (true≢false (sym w ∙ rests)) }
-
   module _ (is : number l 0 ≡ 11) where
     going : waits l ≡ true
     going = eq-eqb (number l 0) 11 is
 
-    pub asked-nothing : sound l ≡ false → Through l S 1 l
-    asked-nothing h = record {
-      settled = λ w. absurd (true≢false (sym going ∙ w));
-      unasked = λ w u. (refl, refl);
-      steps = λ w ask asks. absurd (true≢false (sym asks.0 ∙ h));
-    }
-
     -- The engine's step, and what stands afterwards.
-    module _ {ask : Ask} (asks : AskedIn l (fields.Ask ask)) {y : Stepped} (h : S (engine_in ask l) y) where
+    module _ {ask : Ask} (asks : AskedIn l (Some ask)) {y : Stepped} (h : S (engine_in ask l) y) where
       takes_step : {r : ℕ} {l' : List ℕ} → r ≡ y.refusal → Retold l y (eqb y.refusal 0) l' → Through l S r l'
       takes_step e told = record {
         settled = λ w. absurd (true≢false (sym going ∙ w));
@@ -62,11 +49,8 @@ module _ (l : List ℕ) (S : Engine → Stepped → Type 0) where
       pub step-taken : y.refusal ≡ 0 → {l' : List ℕ} → Told y.engine (asking_in l) y.engine.phase l' → Through l S 0 l'
       step-taken z told = takes_step (sym z) (rw (eq-eqb y.refusal 0 z) told)
 
--- The ways to begin.
+-- A call is begun.
 module _ {h : Header} {k : ℕ} {c : Call} {asking before told : List ℕ} {asks : Bool} where
-  pub begins-nothing : asks ≡ false → BegunAs asks h k c asking before told 1 before told
-  begins-nothing none = record { unasked = λ u. (refl, refl, refl); begun = λ u. absurd (true≢false (sym u ∙ none)) }
-
   pub begins-one : asks ≡ true → {ask : Ask} → Asks h ask → {e : Engine} {after' told' : List ℕ} → Begins (session_of h) (limited_to (limit_for k) ask) c before e after'
       → Told e asking e.phase told' → BegunAs asks h k c asking before told 0 after' told'
   begins-one one {ask} said {e} begins t = record { unasked = λ u. absurd (true≢false (sym one ∙ u)); begun = λ u. (refl, ask, said, e, begins, t) }
@@ -98,33 +82,33 @@ begun-unique true {h} {k} {c} {asking} {before} {a' = a'} {t' = t'} u u' =
 
 -- At most one result and one state fit a step, whatever the state's numbers ask; `state_numbers::ask_in` says that of every state.
 module _ (l : List ℕ) (S : Engine → Stepped → Type 0) (one : (e : Engine) (y y' : Stepped) → S e y → S e y' → y ≡ y') where
-  step-unique : (x : Fields) → AskedIn l x → {r r' : ℕ} {m m' : List ℕ} → Through l S r m → Through l S r' m' → (r ≡ r') × (m ≡ m')
+  step-unique : (x : code.Option Ask) → AskedIn l x → {r r' : ℕ} {m m' : List ℕ} → Through l S r m → Through l S r' m' → (r ≡ r') × (m ≡ m')
   step-unique x asks {r} {r'} {m} {m'} k k' = go (waits l) refl x asks
     where
       retold : (y : Stepped) (b : Bool) → Retold l y b m → Retold l y b m' → m ≡ m'
       retold y true h h' = told-unique y.engine (asking_in l) y.engine.phase h h'
       retold y false h h' = h ∙ sym h'
 
-      go : (b : Bool) → waits l ≡ b → (x : Fields) → AskedIn l x → (r ≡ r') × (m ≡ m')
+      go : (b : Bool) → waits l ≡ b → (x : code.Option Ask) → AskedIn l x → (r ≡ r') × (m ≡ m')
       go false w x asks =
           let z = k.settled w in
           let z' = k'.settled w in
           (z.0 ∙ sym z'.0, z.1 ∙ sym z'.1)
-      go true w fields.Unsound asks =
+      go true w None asks =
           let z = k.unasked w asks in
           let z' = k'.unasked w asks in
           (z.0 ∙ sym z'.0, z.1 ∙ sym z'.1)
-      go true w (fields.Ask ask) asks =
+      go true w (Some ask) asks =
           let z = k.steps w ask asks in
           let z' = k'.steps w ask asks in
           let same = one (engine_in ask l) z.0 z'.0 z.1 z'.1 in
           let told = subst⁻¹ (λ (y : Stepped). Retold l y (eqb y.refusal 0) m') same z'.3 in
           (z.2 ∙ ap (λ (y : Stepped). y.refusal) same ∙ sym z'.2, retold z.0 (eqb z.0.refusal 0) z.3 told)
 
-pub tick-unique : (l : List ℕ) (t : ℕ) (x : Fields) → AskedIn l x → {r r' : ℕ} {m m' : List ℕ} → Ticked l t r m → Ticked l t r' m' → (r ≡ r') × (m ≡ m')
+pub tick-unique : (l : List ℕ) (t : ℕ) (x : code.Option Ask) → AskedIn l x → {r r' : ℕ} {m m' : List ℕ} → Ticked l t r m → Ticked l t r' m' → (r ≡ r') × (m ≡ m')
 tick-unique l t x asks k k' = step-unique l (λ e y. y ≡ tick_of e t) (λ e y y' h h'. h ∙ sym h') x asks k k'
 
-pub handed-unique : (l q : List ℕ) (x : Entry) (replies : List ℕ) (asked : Fields) → AskedIn l asked → {r r' : ℕ} {m m' : List ℕ}
+pub handed-unique : (l q : List ℕ) (x : Entry) (replies : List ℕ) (asked : code.Option Ask) → AskedIn l asked → {r r' : ℕ} {m m' : List ℕ}
     → Handed l q x replies r m → Handed l q x replies r' m' → (r ≡ r') × (m ≡ m')
 handed-unique l q x replies asked asks k k' =
     step-unique l (λ e y. Hands e (stepping.address_in l q) (stepping.size_in l q) x replies y)

@@ -1,4 +1,5 @@
 -- What a step through the door does with the twenty-eight numbers that a host keeps.
+use Rattle.std.specs.Prelude.{Some, None}
 use Rattle.std.specs.Prelude.{ℕ, ◌+◌, ◌%◌, Bool, true, false, ◌&&◌, ◌≡◌, List, [], ◌∷◌, eqb, length, take, drop}
 use Rattle.rules.specs.Calls.{Call, alfid}
 use Rattle.rules.specs.Events.{Entry}
@@ -7,10 +8,8 @@ use Rattle.stepwise.specs.Handed as wise
 use Rattle.stepwise.specs.Handed.{lent, now}
 use Rattle.calls.specs.declared.Ask.{Ask}
 use Rattle.log_call.specs.Asking.{chosen, session_of, Asks}
-use Rattle.log_call.specs.declared.Fields.TheVariants as asked
 use Rattle.steps.specs.declared.Engine.{Engine}
-use Rattle.steps.specs.declared.Stepped.{Stepped}
-use Rattle.steps.specs.Stepping.{tick_of, Hands, Begins}
+use Rattle.steps.specs.Stepping.{Stepped, tick_of, Hands, Begins}
 use Rattle.door.specs.Door as door
 use Rattle.door.specs.Door.{asks_one, has_alfid, data_in, limit_for, limited_to}
 use Rattle.state_numbers.specs.Kept.{number, waits, AskedIn, asking_in, engine_in, Told}
@@ -23,8 +22,8 @@ Retold l y false l' = l' ≡ l
 -- A step through the door. 21 where the state has settled, or never waited; 1 where it asks no call; else the engine's step.
 pub record Through (l : List ℕ) (S : Engine → Stepped → Type 0) (r : ℕ) (l' : List ℕ) : Type 0 where
   pub settled : waits l ≡ false → (r ≡ 21) × (l' ≡ l)
-  pub unasked : waits l ≡ true → AskedIn l asked.Unsound → (r ≡ 1) × (l' ≡ l)
-  pub steps : waits l ≡ true → (ask : Ask) → AskedIn l (asked.Ask ask)
+  pub unasked : waits l ≡ true → AskedIn l None → (r ≡ 1) × (l' ≡ l)
+  pub steps : waits l ≡ true → (ask : Ask) → AskedIn l (Some ask)
       → (y : Stepped) × S (engine_in ask l) y × (r ≡ y.refusal) × Retold l y (eqb y.refusal 0) l'
 
 -- Address and size as they stand in the request that was sent, behind its first two bytes.

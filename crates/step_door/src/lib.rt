@@ -5,8 +5,7 @@
 ghost use Rattle.step_door.specs.Stepping.{entry, Handed};
 
 use exchange::types::Event;
-use log_call::Fields;
-use state_numbers::{WAITING, ask_in, asking, byte, engine_in, told};
+use state_numbers::{WAITING, ask_in, asking, engine_in, told};
 use wire::part;
 
 // One event, with the request that was sent and the reply bytes lent for it. 0 where it was taken; 10, 20 or 21 where it is refused, and 1 where the state is none: then the state stays.
@@ -26,7 +25,7 @@ pub fn bintrochis_door_event(
     if s[0] != WAITING {
         return 21;
     }
-    let Fields::Ask(ask) = ask_in(s) else {
+    let Some(ask) = ask_in(s) else {
         return 1;
     };
     let event = Event {
@@ -36,14 +35,15 @@ pub fn bintrochis_door_event(
         size,
         source,
     };
-    let address_width = byte(s[26]) as usize;
+    let address_width = (s[26] % 256) as usize;
+    let size_width = (s[27] % 256) as usize;
     let address = part(request, 2, address_width);
-    let size = part(request, 2 + address_width, byte(s[27]) as usize);
-    let stepped = steps::event(engine_in(ask, s), address, size, event, replies);
-    let refusal = stepped.refusal;
-    if refusal != 0 {
-        return refusal;
+    let size = part(request, 2 + address_width, size_width);
+    match steps::event(engine_in(ask, s), address, size, event, replies) {
+        Ok(engine) => {
+            *state = told(engine, asking(s));
+            0
+        }
+        Err(refusal) => u8::from(refusal),
     }
-    *state = told(stepped.engine, asking(s));
-    0
 }

@@ -2,10 +2,10 @@
 -- concluded over the bytes lent with the event that settled it.
 use Prim.Native.Nat.{ℕ, ◌≤◌}
 use native.Mathlib.Omega.{arith}
-use mathlib.Core.Bool.{Bool, true}
-use mathlib.Core.Path.{◌≡◌, refl, sym, ◌∙◌, ap, subst, subst⁻¹}
+use mathlib.Core.Bool.{Bool}
+use mathlib.Core.Path.{◌≡◌, sym, ◌∙◌, ap, subst, subst⁻¹}
 use mathlib.Core.List.{List, [], ◌∷◌, ◌++◌, map}
-use mathlib.Core.Option.{Option, some}
+use mathlib.Core.Option.{Option}
 use lib.ListN.{length}
 use Rattle.rules.specs.Answers as answers
 use Rattle.rules.specs.Events.{Entry, Event}
@@ -17,17 +17,16 @@ use Rattle.stepwise.specs.Driven as driven
 use Rattle.stepwise.specs.Driven.{InOrder}
 use Rattle.stepwise.specs.Handed.{Handed, lent, now, input_of, hands, run_of}
 use Rattle.stepwise.proofs.Handed.{run_of-append}
-use Rattle.stepwise.proofs.Apart.{Apart, done, takes, ticks, apart}
-use Rattle.exchange.specs.Meaning.{asked_of, overall_of}
+use Rattle.stepwise.proofs.Apart.{Apart, apart}
+use Rattle.exchange.specs.Meaning.{asked_of, option_of}
 use Rattle.exchange.specs.States.{state_of}
 use Rattle.calls.specs.declared.Answered.{Answered}
 use Rattle.steps.specs.declared.Begun.{Begun}
 use Rattle.steps.specs.declared.Engine.{Engine}
 use Rattle.steps.specs.declared.Phase.{Phase}
 use Rattle.steps.specs.declared.Phase.TheVariants.{Waiting, Settled}
-use Rattle.steps.specs.declared.Stepped.{Stepped}
 use Rattle.steps.specs.Running.{Steps, Due}
-use Rattle.steps.specs.Stepping.{asked_in, tick_of, refusing, HandsIn, Hands}
+use Rattle.steps.specs.Stepping.{Stepped, asked_in, tick_of, refusing, HandsIn, Hands}
 use Rattle.steps.proofs.Standing.{Decided, Stands, tick-stands, event-stands}
 
 module _ (b : Begun) (a s : List ℕ) where
@@ -38,7 +37,7 @@ module _ (b : Begun) (a s : List ℕ) where
   asks = asked_of (asked_in b)
 
   abbrev overall : Option ℕ
-  overall = overall_of b.ask.overall
+  overall = option_of b.ask.overall
 
   abbrev listens : ℕ
   listens = b.ask.channel.listens

@@ -5,8 +5,7 @@ use mathlib.Core.Path.{◌≡◌, sym, ap, subst⁻¹, ◌∙◌}
 use Rattle.rules.specs.Events.{Entry}
 use Rattle.steps.specs.declared.Engine.{Engine}
 use Rattle.steps.specs.declared.Phase.{Phase}
-use Rattle.steps.specs.declared.Stepped.{Stepped}
-use Rattle.steps.specs.Stepping.{ticked, tick_of, HandsIn, Hands}
+use Rattle.steps.specs.Stepping.{Stepped, ticked, tick_of, HandsIn, Hands}
 
 pub ticks : (e : Engine) (t : ℕ) {p : Phase} {r : Stepped} → e.phase ≡ p → r ≡ ticked e t p → r ≡ tick_of e t
 ticks e t is h = h ∙ sym (ap (ticked e t) is)

@@ -24,10 +24,9 @@ use Rattle.stepwise.specs.Engine as wise
 use Rattle.stepwise.specs.Engine.{waiting, decided, tick}
 use Rattle.stepwise.specs.Driven as driven
 use Rattle.stepwise.specs.Driven.{InOrder}
-use Rattle.stepwise.specs.Handed.{Handed, lent, now, input_of, hands, run_of, Handing, done, takes, ticks}
+use Rattle.stepwise.specs.Handed.{Handed, lent, now, input_of, run_of, Handing, done, takes, ticks}
 use Rattle.stepwise.proofs.Handed.{handled, run_of-append}
-use Rattle.exchange.specs.Guarded.{guarded}
-use Rattle.exchange.specs.Meaning.{form_of, asked_of, sub_of, outcome_of, overall_of}
+use Rattle.exchange.specs.Meaning.{form_of, asked_of, option_of, outcome_of}
 use Rattle.exchange.specs.Places.{Answers}
 use Rattle.exchange.specs.States.{state_of, start_of}
 use Rattle.exchange.specs.declared.types.State.{State}
@@ -37,11 +36,17 @@ use Rattle.requests.specs.Parameters.{bit7}
 use Rattle.requests.specs.Rows.{row_of}
 use Rattle.requests.specs.Prepared.{refusal_of, prepared_of, ready_of, over}
 use Rattle.requests.specs.declared.Prepared.{Prepared}
-use Rattle.requests.proofs.Callers.{refusal_is, is-ready, sends, writes}
+use Rattle.requests.proofs.Callers.{refusal_is, is-prepared, none-of-nine, sends, writes}
 use Rattle.requests.proofs.Refusals as refusing
 use Rattle.requests.proofs.Table.{sid-is, sub_is, sent-sub}
+use Rattle.std.specs.Prelude as returned
+use Rattle.std.specs.Prelude.{Ok, Err}
+use Rattle.wire.specs.Refusing.{refusal_number}
+use Rattle.wire.specs.declared.refusal.Refusal.{Refusal}
+use Rattle.exchange.specs.declared.types.Outcome.{Outcome}
+use Rattle.exchange.specs.declared.types.Outcome.TheVariants as outcome
 use Rattle.calls.specs.Concluded.{Concluded}
-use Rattle.calls.specs.Meaning.{setting_of, lent_of, result_of, refused_of, is_refused, Called}
+use Rattle.calls.specs.Meaning.{setting_of, lent_of, refused_of, is_refused, Called}
 use Rattle.calls.specs.declared.Ask.{Ask}
 use Rattle.calls.specs.declared.Answered.{Answered}
 use Rattle.calls.proofs.Running.{Given, refused-test, refused-anywhere, turned-away, carried-out, opens}
@@ -50,15 +55,14 @@ use Rattle.steps.specs.declared.Begun.{Begun}
 use Rattle.steps.specs.declared.Engine.{Engine}
 use Rattle.steps.specs.declared.Phase.{Phase}
 use Rattle.steps.specs.declared.Phase.TheVariants.{Waiting, Settled}
-use Rattle.steps.specs.declared.Stepped.{Stepped}
-use Rattle.steps.specs.Running.{Steps, DueIn, Due}
-use Rattle.steps.specs.Stepping.{asked_in, ticked, tick_of, HandsIn, Hands, begun_by, Begins}
-use Rattle.steps.proofs.Standing.{Decided, Stands, StandsFor, tick-stands, event-stands}
+use Rattle.steps.specs.Running.{Steps, Due}
+use Rattle.steps.specs.Stepping.{Stepped, asked_in, ticked, tick_of, HandsIn, Hands, begun_by, Begins}
+use Rattle.steps.proofs.Standing.{Decided, Stands, tick-stands, event-stands}
 
 -- A run stands for the definition's run.
 module _ (b : Begun) (a s replies : List ℕ) where
   abbrev runs : wise.Engine → List Handed → wise.Engine
-  runs = run_of b.ask.strict (asked_of (asked_in b)) (overall_of b.ask.overall) b.ask.channel.listens
+  runs = run_of b.ask.strict (asked_of (asked_in b)) (option_of b.ask.overall) b.ask.channel.listens
 
   pub run-stands : {es : List Entry} {ts : List ℕ} {hs : List Handed} → Handing replies es ts hs → (e : Engine) (z : wise.Engine) (e' : Engine)
       → Stands b a s replies e z → Steps a s hs e e' → Stands b a s replies e' (runs z hs)
@@ -67,7 +71,7 @@ module _ (b : Begun) (a s replies : List ℕ) where
   run-stands (takes {e = x} m) e z e' h k = run-stands m k.0.engine _ e' (event-stands b a s replies e z h x k.1).1 k.2
   run-stands (ticks {t = t} m) e z e' h k = run-stands m (tick_of e t).engine _ e' (tick-stands b a s replies e z h t).1 k
 
-  due-stands : (e : Engine) (z : wise.Engine) (t : ℕ) → Stands b a s replies e z → Due e t → driven.Due (overall_of b.ask.overall) z t
+  due-stands : (e : Engine) (z : wise.Engine) (t : ℕ) → Stands b a s replies e z → Due e t → driven.Due (option_of b.ask.overall) z t
   due-stands e (waiting last z) t h d = subst (λ (q : Engine). Due q t) h.0 d
   due-stands e (decided y) t h d = tt
 
@@ -126,6 +130,18 @@ never o h = go (is_refused o) refl
     go true e = absurd (h (refused-test o e))
     go false e = refl
 
+-- What the code answers refused is one of the refusals.
+refused-as : (o : Outcome) {n : ℕ} → outcome_of [] o ≡ answers.refused n → (r : Refusal) × (refusal_number r ≡ n)
+refused-as (outcome.PositiveResponse x) e = absurd (let z : ◌≡◌ {A = ℕ} 0 1 = cc in omega arith)
+refused-as outcome.Suppressed e = absurd (let z : ◌≡◌ {A = ℕ} 0 1 = cc in omega arith)
+refused-as (outcome.NegativeResponse x) e = absurd (let z : ◌≡◌ {A = ℕ} 0 1 = cc in omega arith)
+refused-as outcome.Timeout e = absurd (let z : ◌≡◌ {A = ℕ} 0 1 = cc in omega arith)
+refused-as outcome.Disconnected e = absurd (let z : ◌≡◌ {A = ℕ} 0 1 = cc in omega arith)
+refused-as (outcome.Transport x) e = absurd (let z : ◌≡◌ {A = ℕ} 0 1 = cc in omega arith)
+refused-as (outcome.Fault x) e = absurd (let z : ◌≡◌ {A = ℕ} 0 1 = cc in omega arith)
+refused-as (outcome.Refused r) {n} e = (r, cc)
+refused-as outcome.PendingLimit e = absurd (let z : ◌≡◌ {A = ℕ} 0 1 = cc in omega arith)
+
 -- An engine waits, with one state, or has settled.
 abbrev IsWaiting : Phase → Type 0
 IsWaiting (Waiting z) = Unit {0}
@@ -150,39 +166,62 @@ module _ (session : Timing) (ask : Ask) (a s d before : List ℕ) where
   abbrev given : List ℕ → List ℕ → Given
   given events replies = record { session = session; ask = ask; a = a; s = s; d = d; lent = lent_of ask.channel before events replies }
 
-  abbrev p : Prepared
-  p = prepared_of ask.call ask.quiet a s d (length before)
+  -- The number that refuses it by its arguments or its size, 0 where none does.
+  abbrev pub number : ℕ
+  number = refusal_of ask.quiet c (length before)
 
-  told : p.refusal ≡ refusal_of ask.quiet c (length before)
-  told = refusal_is ask.call ask.quiet a s d (length before)
+  -- `prepare` refuses it so.
+  abbrev pub Refuses : Refusal → Type 0
+  Refuses r = Err (refusal_number r) ≡ prepared_of ask.call ask.quiet a s d (length before)
+
+  -- What `prepare` says of it where nothing refuses it.
+  abbrev p : Prepared
+  p = ready_of ask.call ask.quiet a s d
 
   -- The exchange is asked with the call's SID and sub-function.
   asks-are : (n : ℕ) → asked_of (asked_in (record { ask = ask; session = session; sent = n })) ≡ asked w c
   asks-are n =
       let k = ask.call in
       let sid : (row_of k).sid ≡ sid_of c = sym (sid-is (rules.given a) (rules.given s) d k) in
-      let sub : sub_of (bit7 ask.quiet (row_of k).sub) ≡ with_bit7 ask.quiet (rules.sub_of c) =
+      let sub : option_of (bit7 ask.quiet (row_of k).sub) ≡ with_bit7 ask.quiet (rules.sub_of c) =
       sent-sub ask.quiet (row_of k).sub ∙ ap (with_bit7 ask.quiet) (sym (sub_is (rules.given a) (rules.given s) d k))
       in
       λ i. record { sid = sid i; sub = sub i; timing = w.timing; limit = w.limit }
 
   -- Refused by its arguments or its size, the engine has settled as the call answers, whatever is lent.
-  pub refused-alike : {e after : _} → (p.refusal ≡ 0 → ⊥) → Begins session ask c before e after → (e.phase ≡ Settled (refused_of session p.refusal)) × (after ≡ before)
-  refused-alike {e} {after} h k =
-      let same = unique {strict = ask.strict} k.called (turned-away (given [] []) refl h) in
+  pub refused-alike : {e after : _} (r : Refusal) → Refuses r → Begins session ask c before e after → (e.phase ≡ Settled (refused_of session r)) × (after ≡ before)
+  refused-alike {e} {after} r h k =
+      let same = unique {strict = ask.strict} k.called (turned-away (given [] []) r h) in
       (ap (λ (q : Engine). q.phase) k.engine ∙ ap (λ (q : Answered). (begun_by session ask q).phase) same.0, same.1)
 
+  abbrev quietly : Lent
+  quietly = lent_of ask.channel before [] []
+
+  -- A number that is not 0 is one of the refusals, which the call answered that hears nothing.
+  pub refuses-so : {e after : _} → (number ≡ 0 → ⊥) → Begins session ask c before e after → (r : Refusal) × Refuses r
+  unfolding call
+  refuses-so {e} {after} h k =
+      let r = refused-as k.unheard.answer.outcome (ap (λ (q : Result). q.answer.outcome) (k.called.means ∙ turned)) in
+      (r.0, ap Err r.1 ∙ sayings (prepared_of ask.call ask.quiet a s d (length before)) refl)
+    where
+      turned : call ask.strict w c quietly ≡ refuse w quietly number
+      turned = refusing.refused (refuse w quietly) ask.quiet c before quietly.form [] [] _ number refl h
+
+      sayings : (x : returned.Result Prepared ℕ) → x ≡ prepared_of ask.call ask.quiet a s d (length before) → Err number ≡ prepared_of ask.call ask.quiet a s d (length before)
+      sayings (Ok x) e = absurd (h (none-of-nine ask.call ask.quiet a s d before e))
+      sayings (Err n) e = ap Err (sym (refusal_is ask.call ask.quiet a s d (length before) e).0) ∙ e
+
   -- Else it has sent the request, and waits.
-  module _ (none_yet : p.refusal ≡ 0) {e : Engine} {after' : List ℕ} (k : Begins session ask c before e after') where
+  module _ (none_yet : number ≡ 0) {e : Engine} {after' : List ℕ} (k : Begins session ask c before e after') where
     abbrev request : List ℕ
     request = request_of ask.quiet c
 
-    abbrev quietly : Lent
-    quietly = lent_of ask.channel before [] []
+    ready : Ok p ≡ prepared_of ask.call ask.quiet a s d (length before)
+    ready = is-prepared ask.call ask.quiet a s d (length before) none_yet
 
     silent-is : call ask.strict w c quietly ≡ answered w c quietly request (after ask.strict c (exchange.exchange ask.strict (asked w c) w.overall (events_in quietly)))
     unfolding call
-    silent-is = refusing.accepted (refuse w quietly) ask.quiet c before quietly.form [] [] _ p.refusal told none_yet (no-limit-broken quietly.form)
+    silent-is = refusing.accepted (refuse w quietly) ask.quiet c before quietly.form [] [] _ number refl none_yet (no-limit-broken quietly.form)
 
     sent : k.unheard.sent ≡ length request
     sent = ap (λ (q : Result). q.sent) (k.called.means ∙ silent-is)
@@ -207,26 +246,21 @@ module _ (session : Timing) (ask : Ask) (a s d before : List ℕ) where
       abbrev l : Lent
       l = lent_of ask.channel before events replies
 
-      -- What `prepare` says to the exchange is what the engine knows.
-      asked_is : asked_of (record { sid = p.sid; sub = p.sub; timing = session; limit = ask.limit }) ≡ asked_of (asked_in begun)
-      asked_is = ap (λ (q : Prepared). asked_of (record { sid = q.sid; sub = q.sub; timing = session; limit = ask.limit })) (is-ready ask.call ask.quiet a s d before refl none_yet)
-
       abbrev reached : exchange.Asked → answers.Answer
       reached x = exchange.exchange ask.strict x w.overall (events_in l)
 
       -- What is decided with the exchange's answer is the call's answer.
       finished : {x : Answered} → Decided begun a s replies x (reached (asked_of (asked_in begun))) → Called ask.strict w c l x after'
       finished {x} dec =
-          let q = asked_of (record { sid = p.sid; sub = p.sub; timing = session; limit = ask.limit }) in
-          let exchanged = subst⁻¹ (Answers replies dec.heard) (opens ask.strict q w.overall l within ∙ ap reached asked_is) dec.answers in
+          let exchanged = subst⁻¹ (Answers replies dec.heard) (opens ask.strict (asked_of (asked_in begun)) w.overall l within) dec.answers in
           let heard : is_refused (outcome_of [] dec.heard.outcome) ≡ false =
           refused-anywhere replies dec.heard.outcome ∙
           ap (λ (y : answers.Answer). is_refused y.outcome) dec.answers.means ∙
           never (reached (asked_of (asked_in begun))).outcome (exchange-unrefused ask.strict (asked_of (asked_in begun)) w.overall (events_in l))
           in
-          let long = sent ∙ sym (sends ask.call ask.quiet a s d before refl none_yet) in
+          let long = sent ∙ sym (sends ask.call ask.quiet a s d before ready) in
           subst⁻¹ (Called ask.strict w c l x) written
-          (carried-out (given events replies) refl none_yet exchanged (sym heard) refl (writes ask.call ask.quiet a s d before refl none_yet)
+          (carried-out (given events replies) ready exchanged (sym heard) refl (writes ask.call ask.quiet a s d before ready)
           (subst (λ n. Concluded session ask n a s replies dec.heard x) long dec.concluded))
 
       -- The engine that is handed the list and any ticks in time order, and a tick that is due, has decided the call's answer.
@@ -249,18 +283,19 @@ module _ (session : Timing) (ask : Ask) (a s d before : List ℕ) where
       → within_limits (form_of ask.channel.form) events replies ≡ true → let l = lent_of ask.channel before events replies in
       Begins session ask c before e after' → Handing replies (entries_in l) ts hs → InOrder 0 (map (input_of l.listens) hs ++ (tick last ∷ [])) → Steps a s hs e e' → Due e' last
       → (x : Answered) × ((tick_of e' last).engine.phase ≡ Settled x) × Called ask.strict w c l x after'
-  answers-so {e} {after'} {events} {replies} {ts} {hs} last e' within k m o k' due = go (eqb p.refusal 0) refl
+  answers-so {e} {after'} {events} {replies} {ts} {hs} last e' within k m o k' due = go (eqb number 0) refl
     where
-      go : (z : Bool) → eqb p.refusal 0 ≡ z → (x : Answered) × ((tick_of e' last).engine.phase ≡ Settled x) × Called ask.strict w c (lent_of ask.channel before events replies) x after'
-      go true z = decides (eqb-true p.refusal 0 z) k events replies within last e' m o k' due
+      go : (z : Bool) → eqb number 0 ≡ z → (x : Answered) × ((tick_of e' last).engine.phase ≡ Settled x) × Called ask.strict w c (lent_of ask.channel before events replies) x after'
+      go true z = decides (eqb-true number 0 z) k events replies within last e' m o k' due
       go false z =
-          let refused = eqb-false p.refusal 0 z in
-          let first = refused-alike refused k in
+          let refused = eqb-false number 0 z in
+          let r = refuses-so refused k in
+          let first = refused-alike r.0 r.1 k in
           let rests = stays a s hs e e' first.0 k' in
           let phase = ap (λ (q : Engine). q.phase) (sym rests) ∙ first.0 in (
-            refused_of session p.refusal,
+            refused_of session r.0,
             ap (λ (q : Phase). (ticked e' last q).engine.phase) phase ∙ phase,
-            subst⁻¹ (Called ask.strict w c (lent_of ask.channel before events replies) (refused_of session p.refusal)) first.1 (turned-away (given events replies) refl refused),
+            subst⁻¹ (Called ask.strict w c (lent_of ask.channel before events replies) (refused_of session r.0)) first.1 (turned-away (given events replies) r.0 r.1),
           )
 
   -- The answer, counts, finishing time, number and session timing, and the request, are those of any call over the same list.
@@ -277,20 +312,20 @@ module _ (session : Timing) (ask : Ask) (a s d before : List ℕ) where
   pub knows : {e after' : _} {replies : List ℕ} {es : List Entry} {ts : List ℕ} {hs : List Handed} (e' : Engine) (now' : State) → Begins session ask c before e after'
       → every (sound replies) es ≡ true → length es ≤ 512 → Handing replies es ts hs → InOrder 0 (map (input_of ask.channel.listens) hs) → Steps a s hs e e' → e'.phase ≡ Waiting now'
       → (z : exchange.State) × (driven.turns ask.strict (asked w c) (map (event_of ask.channel.listens replies) es) (start (asked w c)) ≡ exchange.on z) × (now' ≡ state_of w.overall z)
-  knows {e} {after'} {replies} {es} {ts} {hs} e' now' k sounds most m o k' waits = go (eqb p.refusal 0) refl
+  knows {e} {after'} {replies} {es} {ts} {hs} e' now' k sounds most m o k' waits = go (eqb number 0) refl
     where
       Known : Type 0
       Known = (z : exchange.State) × (driven.turns ask.strict (asked w c) (map (event_of ask.channel.listens replies) es) (start (asked w c)) ≡ exchange.on z) × (now' ≡ state_of w.overall z)
 
-      of : (y : wise.Engine) → (b : Begun) → overall_of b.ask.overall ≡ w.overall → Stands b a s replies e' y
+      of : (y : wise.Engine) → (b : Begun) → option_of b.ask.overall ≡ w.overall → Stands b a s replies e' y
           → driven.Means ask.strict (asked w c) w.overall (start (asked w c)) (map (event_of ask.channel.listens replies) es) (driven.clock 0 (map (input_of ask.channel.listens) hs)) y → Known
       of (waiting last z) b same stands means =
           (z, means.1, waiting-once (sym waits ∙ ap (λ (q : Engine). q.phase) stands.0) ∙ ap (λ (t : Option ℕ). state_of t z) same)
       of (decided x) b same stands means = absurd (subst IsWaiting (sym waits ∙ ap (λ (q : Engine). q.phase) stands.2) tt)
 
-      go : (z : Bool) → eqb p.refusal 0 ≡ z → Known
+      go : (z : Bool) → eqb number 0 ≡ z → Known
       go true z =
-          let none_yet = eqb-true p.refusal 0 z in
+          let none_yet = eqb-true number 0 z in
           let b : Begun = record { ask = ask; session = session; sent = k.unheard.sent } in
           let asks = asked_of (asked_in b) in
           let first : Stands b a s replies e (waiting 0 (start asks)) =
@@ -301,5 +336,6 @@ module _ (session : Timing) (ask : Ask) (a s d before : List ℕ) where
           of (runs b a s replies (waiting 0 (start asks)) hs) b refl ran
           (subst (λ (q : exchange.Asked). driven.Means ask.strict q w.overall (start q) (map (event_of ask.channel.listens replies) es) (driven.clock 0 (map (input_of ask.channel.listens) hs)) (runs b a s replies (waiting 0 (start asks)) hs)) (asks-are k.unheard.sent) means)
       go false z =
-          let first = refused-alike (eqb-false p.refusal 0 z) k in
+          let r = refuses-so (eqb-false number 0 z) k in
+          let first = refused-alike r.0 r.1 k in
           absurd (subst IsWaiting (sym waits ∙ ap (λ (q : Engine). q.phase) (sym (stays a s hs e e' first.0 k')) ∙ first.0) tt)

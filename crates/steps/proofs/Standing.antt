@@ -1,34 +1,31 @@
 -- The engine's steps stand for those of `stepwise`: a waiting state counts the times that the definition's state keeps, and what was decided is the definition's answer, checked.
-use Prim.Native.Nat.{ℕ, ◌+◌, ◌≤◌, ◌<◌}
+use Prim.Native.Nat.{ℕ, ◌≤◌, ◌<◌}
 use native.Mathlib.Omega.{arith}
 use mathlib.Core.Bool.{Bool, true, false, cond, ◌&&◌, and-true, and-false}
 use mathlib.Core.Path.{◌≡◌, refl, sym, ◌∙◌, ap, subst, subst⁻¹}
-use mathlib.Core.List.{List, [], ◌∷◌, ◌++◌}
+use mathlib.Core.List.{List, [], ◌++◌}
 use mathlib.Core.Option.{Option, none, some}
 use lib.Dec.{leb, ltb, eqb}
 use lib.ListN.{length, length-append}
-use borrow.Author.Tests.{leb-true, leb-false, le-leb, lt-leb, lt-ltb, le-ltb}
-use Rattle.rules.specs.After.{checked, number_of, timing_of}
+use borrow.Author.Tests.{leb-true, leb-false, lt-ltb, le-ltb}
 use Rattle.rules.specs.Answers as answers
 use Rattle.rules.specs.Answers.{if_positive}
 use Rattle.rules.specs.Calls.{loads, numbered}
 use Rattle.rules.specs.Events.{Entry, Event, event_of, sound}
 use Rattle.rules.specs.Exchange as rules
 use Rattle.rules.specs.Exchange.{state, on, ends, turn, silence, under}
-use Rattle.rules.specs.InOrder.{unless, judge}
 use Rattle.rules.specs.Limited.{spent}
 use Rattle.rules.proofs.Limits.{event-time}
 use Rattle.rules.proofs.Turns.{raised, turn-raised, ReadsOne, turn-reads-one}
 use Rattle.stepwise.specs.Engine as wise
 use Rattle.stepwise.specs.Engine.{waiting, decided, step, stepped, accepts, follow, past}
-use Rattle.stepwise.specs.Handed.{Handed, lent, now, hands}
+use Rattle.stepwise.specs.Handed.{lent, now, hands}
 use Rattle.exchange.specs.Counts.{count_of, plus}
-use Rattle.exchange.specs.Meaning.{asked_of, outcome_of, overall_of, timed}
-use Rattle.exchange.specs.Places.{InsideOutcome, beginning, TurnsTo, Turns, Answers}
+use Rattle.exchange.specs.Meaning.{asked_of, option_of, timed}
+use Rattle.exchange.specs.Places.{beginning, TurnsTo, Answers}
 use Rattle.exchange.specs.States.{no_place, state_of, silence_of, whole_of, cut_of, under_of}
 use Rattle.exchange.specs.declared.types.Answer.{Answer}
 use Rattle.exchange.specs.declared.types.Outcome.TheVariants as outcome
-use Rattle.exchange.specs.declared.types.Settled as exchange-settled
 use Rattle.exchange.specs.declared.types.State.{State}
 use Rattle.exchange.specs.declared.types.Turn.{Turn}
 use Rattle.exchange.specs.declared.types.Turn.TheVariants.{On, Ends}
@@ -44,8 +41,7 @@ use Rattle.steps.specs.declared.Begun.{Begun}
 use Rattle.steps.specs.declared.Engine.{Engine}
 use Rattle.steps.specs.declared.Phase.{Phase}
 use Rattle.steps.specs.declared.Phase.TheVariants.{Waiting, Settled}
-use Rattle.steps.specs.declared.Stepped.{Stepped}
-use Rattle.steps.specs.Stepping.{asked_in, past_of, refusing, going_on, late_of, silent_in, Settles, tick_of, without_turn, Behind, Turned, HandsTo, Hands}
+use Rattle.steps.specs.Stepping.{Stepped, asked_in, past_of, refusing, going_on, late_of, tick_of, Behind, Turned, HandsTo, Hands}
 
 -- A step's refusal, 0 where it was taken.
 abbrev pub refusal_in : Option ℕ → ℕ
@@ -62,7 +58,7 @@ module _ (b : Begun) (a s replies : List ℕ) where
   asks = asked_of (asked_in b)
 
   abbrev overall : Option ℕ
-  overall = overall_of b.ask.overall
+  overall = option_of b.ask.overall
 
   abbrev listens : ℕ
   listens = b.ask.channel.listens

@@ -2,15 +2,15 @@
 use Prim.Native.Nat.{ℕ}
 use native.Mathlib.Omega.{arith}
 use mathlib.Core.Bool.{Bool, true, false, cond}
-use mathlib.Core.Path.{◌≡◌, refl, sym, ◌∙◌, ap, subst, subst⁻¹}
+use mathlib.Core.Path.{◌≡◌, refl, sym, ◌∙◌, ap, subst⁻¹}
 use mathlib.Core.List.{List}
 use mathlib.Core.Option.{Option, none, some}
 use lib.Dec.{leb, ltb}
-use Rattle.rules.specs.Answers as rules
+use Rattle.std.specs.Prelude.{Result, Ok, Err}
 use Rattle.rules.specs.Calls.{Call}
 use Rattle.rules.specs.Events.{Entry, sound}
 use Rattle.rules.specs.Exchange as exchange
-use Rattle.exchange.specs.Places.{TurnsTo, Turns}
+use Rattle.exchange.specs.Places.{TurnsTo}
 use Rattle.exchange.specs.declared.types.State.{State}
 use Rattle.exchange.specs.declared.types.Timing.{Timing}
 use Rattle.exchange.specs.declared.types.Turn.{Turn}
@@ -20,11 +20,26 @@ use Rattle.calls.specs.declared.Ask.{Ask}
 use Rattle.calls.specs.declared.Answered.{Answered}
 use Rattle.calls.proofs.Concluding.{concluded-unique}
 use Rattle.calls.proofs.Whole.{unique}
+use Rattle.wire.specs.Refusing.{refusal_number}
+use Rattle.wire.specs.declared.refusal.Refusal.{Refusal}
+use Rattle.wire.proofs.Refusals.{refusal_of, refusal-back, same-refusal}
 use Rattle.steps.specs.declared.Engine.{Engine}
 use Rattle.steps.specs.declared.Phase.{Phase}
 use Rattle.steps.specs.declared.Phase.TheVariants as phase
-use Rattle.steps.specs.declared.Stepped.{Stepped}
-use Rattle.steps.specs.Stepping.{overall_in, past_of, refusing, going_on, late_of, taken, ticked, tick_of, without_turn, Behind, Turned, HandsTo, HandsIn, Hands, begun_by, Begins}
+use Rattle.steps.specs.Stepping.{Stepped, stepped_in, overall_in, past_of, refusing, going_on, late_of, taken, ticked, tick_of, without_turn, Behind, Turned, HandsTo, HandsIn, Hands, begun_by, Begins}
+
+-- No refusal has the number 0.
+pub never-zero : (r : Refusal) → refusal_number r ≡ 0 → ⊥
+never-zero r e =
+    let one : refusal_number r ≡ 1 = ap refusal_number (sym (refusal-back r) ∙ ap refusal_of e) in
+    omega arith
+
+-- At most one answer of the code is a step.
+pub answer-unique : (e : Engine) (x y : Result Engine Refusal) → stepped_in e x ≡ stepped_in e y → x ≡ y
+answer-unique e (Ok a) (Ok b) h = ap (λ (q : Stepped). Ok q.engine) h
+answer-unique e (Ok a) (Err r) h = absurd (never-zero r (sym (ap (λ (q : Stepped). q.refusal) h)))
+answer-unique e (Err r) (Ok a) h = absurd (never-zero r (ap (λ (q : Stepped). q.refusal) h))
+answer-unique e (Err r) (Err s) h = ap Err (same-refusal r s (ap (λ (q : Stepped). q.refusal) h))
 
 -- `begin` and `begin_alfid`
 pub begin-unique : {session : Timing} {ask : Ask} {c : Call} {before : List ℕ} {e e' : Engine} {after after' : List ℕ} → Begins session ask c before e after → Begins session ask c before e' after'

@@ -4,8 +4,7 @@ use Rattle.stepwise.specs.Handed.{Handed, lent, now}
 use Rattle.steps.specs.declared.Engine.{Engine}
 use Rattle.steps.specs.declared.Phase.{Phase}
 use Rattle.steps.specs.declared.Phase.TheVariants.{Waiting, Settled}
-use Rattle.steps.specs.declared.Stepped.{Stepped}
-use Rattle.steps.specs.Stepping.{overall_in, past_of, tick_of, Hands}
+use Rattle.steps.specs.Stepping.{Stepped, overall_in, past_of, tick_of, Hands}
 
 -- Behind these, lent with this address and size.
 abbrev pub Steps : List ℕ → List ℕ → List Handed → Engine → Engine → Type 0

@@ -1,10 +1,12 @@
 -- The engine's steps as the code takes them, every field of the state record said. `Standing` ties them to `stepwise`.
-use Rattle.std.specs.Prelude.{ℕ, Bool, cond, ◌||◌, ◌≡◌, List, [], leb, ltb}
+use Rattle.std.specs.Prelude.{ℕ, Bool, cond, ◌||◌, ◌≡◌, List, [], leb, ltb, Result, Ok, Err}
 use Rattle.std.proofs.Math.Option.{Option, none, some}
 use Rattle.rules.specs.Events.{Entry, sound}
 use Rattle.rules.specs.Calls.{Call}
 use Rattle.stepwise.specs.Engine.{beyond}
-use Rattle.exchange.specs.Meaning.{asked_of, outcome_of, overall_of}
+use Rattle.wire.specs.Refusing.{refusal_number}
+use Rattle.wire.specs.declared.refusal.Refusal.{Refusal}
+use Rattle.exchange.specs.Meaning.{asked_of, outcome_of, option_of}
 use Rattle.exchange.specs.Places.{Turns}
 use Rattle.exchange.specs.States.{start_of, silence_of, under_of}
 use Rattle.exchange.specs.declared.types.Answer.{Answer}
@@ -23,10 +25,23 @@ use Rattle.steps.specs.declared.Begun.{Begun}
 use Rattle.steps.specs.declared.Phase.{Phase}
 use Rattle.steps.specs.declared.Phase.TheVariants.{Waiting, Settled}
 use Rattle.steps.specs.declared.Engine.{Engine}
-use Rattle.steps.specs.declared.Stepped.{Stepped}
+
+-- A step's own answer, 0 where it was taken, and the engine behind it.
+pub record Stepped : Type 0 where
+  pub refusal : ℕ
+  pub engine : Engine
+
+-- A step that was taken.
+abbrev pub took : Engine → Stepped
+took e = record { refusal = 0; engine = e }
+
+-- What is answered of an engine: refused, it is as it was.
+abbrev pub stepped_in : Engine → Result Engine Refusal → Stepped
+stepped_in e (Ok e') = took e'
+stepped_in e (Err r) = record { refusal = refusal_number r; engine = e }
 
 abbrev pub overall_in : Engine → Option ℕ
-overall_in e = overall_of e.begun.ask.overall
+overall_in e = option_of e.begun.ask.overall
 
 -- What the exchange knows of the request.
 abbrev pub asked_in : Begun → Asked

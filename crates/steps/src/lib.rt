@@ -2,18 +2,19 @@
 #![tactic(auto)]
 
 ghost use Rattle.std.specs.Prelude.{◌≡◌};
-ghost use Rattle.exchange.specs.Meaning.{entry_of, overall_of};
-ghost use Rattle.steps.specs.Stepping.{asked_in, past_of, refusing, going_on, late_of, Settles, tick_of, Turned, HandsIn, Hands, begun_by, Begins};
+ghost use Rattle.exchange.specs.Meaning.{entry_of, option_of};
+ghost use Rattle.steps.specs.Stepping.{asked_in, past_of, took, stepped_in, taken, going_on, late_of, Settles, tick_of, Turned, HandsIn, Hands, begun_by, Begins};
 ghost use Rattle.rules.specs.Calls.{alfid};
 ghost use Rattle.requests.specs.Meaning.{call_of, call_from};
-ghost use Rattle.steps.specs.declared.Phase.TheVariants.{Waiting};
+ghost use Rattle.steps.specs.declared.Phase.TheVariants.{Waiting, Settled};
 
 use calls::{Answered, Ask, is_refused};
 use exchange::events::sound_alone;
-use exchange::types::{Answer, Asked, Event, RequestTimeout, State, Timing, Turn};
+use exchange::types::{Answer, Asked, Event, State, Timing, Turn};
 use exchange::{silence, start, turn, under};
 use requests::rows::row_of;
 use requests::with_bit7;
+use wire::refusal::Refusal;
 
 // What the engine was begun with: the call, the session's timing, and how many bytes were sent.
 #[derive(Clone, Copy)]
@@ -38,89 +39,61 @@ pub struct Engine {
     pub phase: Phase,
 }
 
-// A step's own answer, 0 where it was taken, and the engine behind it.
-#[derive(Clone, Copy)]
-pub struct Stepped {
-    pub refusal: u8,
-    pub engine: Engine,
-}
-
 // What the exchange knows of the request.
 fn asked(begun: Begun) -> Asked
     ensures { result ≡ asked_in begun }
 {
     let ask = begun.ask;
-    let call = ask.call;
-    let limit = ask.limit;
-    let timing = begun.session;
-    let row = row_of(call);
-    let given = row.sub;
-    let sub = with_bit7(ask.quiet, given);
+    let row = row_of(ask.call);
     Asked {
         sid: row.sid,
-        sub,
-        timing,
-        limit,
-    }
-}
-
-// "changes nothing"
-fn refused(engine: Engine, refusal: u8) -> Stepped
-    ensures { result ≡ refusing refusal engine }
-{
-    Stepped { refusal, engine }
-}
-
-// Taken, and still waiting.
-fn going_on(engine: Engine, time: u64, state: State) -> Stepped
-    ensures { result ≡ going_on time state engine }
-{
-    let begun = engine.begun;
-    Stepped {
-        refusal: 0,
-        engine: Engine {
-            begun,
-            last: time,
-            phase: Phase::Waiting(state),
-        },
+        sub: with_bit7(ask.quiet, row.sub),
+        timing: begun.session,
+        limit: ask.limit,
     }
 }
 
 // Past the deadline or past T: "Past, not at it."
-fn past(overall: RequestTimeout, deadline: u64, time: u64) -> bool
-    ensures { result ≡ past_of (overall_of overall) deadline time }
+fn past(overall: Option<u32>, deadline: u64, time: u64) -> bool
+    ensures { result ≡ past_of (option_of overall) deadline time }
 {
-    if time > deadline {
-        return true;
+    time > deadline || overall.is_some_and(|overall| time > overall as u64)
+}
+
+// Taken, and still waiting.
+fn going_on(engine: Engine, time: u64, state: State) -> Engine
+    ensures { took result ≡ going_on time state engine }
+{
+    Engine {
+        last: time,
+        phase: Phase::Waiting(state),
+        ..engine
     }
-    match overall {
-        RequestTimeout::Never => false,
-        RequestTimeout::At(overall) => time > overall as u64,
+}
+
+// Taken, and settled.
+fn settled(engine: Engine, time: u64, answered: Answered) -> Engine
+    ensures { took result ≡ taken time (Settled answered) engine }
+{
+    Engine {
+        last: time,
+        phase: Phase::Settled(answered),
+        ..engine
     }
 }
 
 // No event in time: timeout or suppressed at the deadline, or timeout at T where T comes first. What came so late is not read.
-fn late(engine: Engine, time: u64, state: State) -> Stepped
-    ensures { result ≡ late_of time state engine }
+fn late(engine: Engine, time: u64, state: State) -> Engine
+    ensures { took result ≡ late_of time state engine }
 {
     let begun = engine.begun;
-    let ask = begun.ask;
-    let overall = ask.overall;
-    let timing = begun.session;
     let answered = Answered {
-        answer: under(overall, silence(state)),
+        answer: under(begun.ask.overall, silence(state)),
         number: 0,
         sent: begun.sent,
-        timing,
+        timing: begun.session,
     };
-    Stepped {
-        refusal: 0,
-        engine: Engine {
-            begun,
-            last: time,
-            phase: Phase::Settled(answered),
-        },
-    }
+    settled(engine, time, answered)
 }
 
 // An event settled it: "the whole call's answer", with the checks behind a positive, the number and the session's timing.
@@ -131,41 +104,36 @@ fn settles(
     size: &[u8],
     replies: &[u8],
     heard: Answer,
-) -> Stepped
-    ensures { Settles engine time address.now size.now replies.now heard result }
+) -> Engine
+    ensures { Settles engine time address.now size.now replies.now heard (took result) }
 {
     let begun = engine.begun;
-    let ask = begun.ask;
-    let session = begun.session;
-    let answered = calls::concluded(session, ask, begun.sent, address, size, replies, heard);
-    Stepped {
-        refusal: 0,
-        engine: Engine {
-            begun,
-            last: time,
-            phase: Phase::Settled(answered),
-        },
-    }
+    let answered = calls::concluded(
+        begun.session,
+        begun.ask,
+        begun.sent,
+        address,
+        size,
+        replies,
+        heard,
+    );
+    settled(engine, time, answered)
 }
 
-// "a tick that says how late it is, in 64 bits": the time since sending.
-pub fn tick(engine: Engine, now: u64) -> Stepped
-    ensures { result ≡ tick_of engine now }
+// "a tick that says how late it is, in 64 bits": the time since sending. A refused step "changes nothing": the engine, which is passed by value, stays as it was.
+pub fn tick(engine: Engine, now: u64) -> Result<Engine, Refusal>
+    ensures { stepped_in engine result ≡ tick_of engine now }
 {
-    let phase = engine.phase;
-    let begun = engine.begun;
-    let ask = begun.ask;
-    let overall = ask.overall;
-    match phase {
-        Phase::Settled(_) => refused(engine, 21),
+    match engine.phase {
+        Phase::Settled(_) => Err(Refusal::Settled),
         Phase::Waiting(state) => {
             if now < engine.last {
-                return refused(engine, 20);
+                return Err(Refusal::GoingBack);
             }
-            if past(overall, state.deadline, now) {
-                return late(engine, now, state);
+            if past(engine.begun.ask.overall, state.deadline, now) {
+                return Ok(late(engine, now, state));
             }
-            going_on(engine, now, state)
+            Ok(going_on(engine, now, state))
         }
     }
 }
@@ -178,26 +146,23 @@ fn turned(
     size: &[u8],
     event: Event,
     replies: &[u8],
-) -> Stepped
-    ensures { Turned engine state address.now size.now (entry_of event) replies.now result }
+) -> Engine
+    ensures { Turned engine state address.now size.now (entry_of event) replies.now (took result) }
 {
-    let begun = engine.begun;
-    let ask = begun.ask;
-    let overall = ask.overall;
-    let channel = ask.channel;
+    let ask = engine.begun.ask;
     let time = event.time as u64;
     match turn(
         ask.strict,
-        asked(begun),
-        overall,
-        channel.listens,
+        asked(engine.begun),
+        ask.overall,
+        ask.channel.listens,
         state,
         event,
         replies,
     ) {
         Turn::On(next) => going_on(engine, time, next),
         Turn::Ends(settled) => {
-            let heard = under(overall, settled);
+            let heard = under(ask.overall, settled);
             settles(engine, time, address, size, replies, heard)
         }
     }
@@ -211,38 +176,39 @@ fn handed(
     size: &[u8],
     event: Event,
     replies: &[u8],
-) -> Stepped
-    ensures { HandsIn engine address.now size.now (entry_of event) replies.now (Waiting state) result }
+) -> Result<Engine, Refusal>
+    ensures { HandsIn engine address.now size.now (entry_of event) replies.now (Waiting state) (stepped_in engine result) }
 {
-    let begun = engine.begun;
-    let ask = begun.ask;
-    let overall = ask.overall;
-    let read = state.read;
     let time = event.time as u64;
-    if read.all >= 512 {
-        return refused(engine, 10);
+    if state.read.all >= 512 {
+        return Err(Refusal::Events);
     }
     if !sound_alone(event, replies) {
-        return refused(engine, 10);
+        return Err(Refusal::Events);
     }
     if time < engine.last {
-        return refused(engine, 20);
+        return Err(Refusal::GoingBack);
     }
-    if past(overall, state.deadline, time) {
-        return late(engine, time, state);
+    if past(engine.begun.ask.overall, state.deadline, time) {
+        return Ok(late(engine, time, state));
     }
-    turned(engine, state, address, size, event, replies)
+    Ok(turned(engine, state, address, size, event, replies))
 }
 
 // One event, with the reply bytes lent for it; address and size are those of the call. "Refusals: 20 for going back, 21 after settling, 10
-// as before; order 21, 10, 20."
-pub fn event(engine: Engine, address: &[u8], size: &[u8], event: Event, replies: &[u8]) -> Stepped
-    ensures { Hands engine address.now size.now (entry_of event) replies.now result }
+// as before; order 21, 10, 20." Refused, the engine, which is passed by value, stays as it was.
+pub fn event(
+    engine: Engine,
+    address: &[u8],
+    size: &[u8],
+    event: Event,
+    replies: &[u8],
+) -> Result<Engine, Refusal>
+    ensures { Hands engine address.now size.now (entry_of event) replies.now (stepped_in engine result) }
 {
-    let phase = engine.phase;
-    match phase {
+    match engine.phase {
         Phase::Waiting(state) => handed(engine, state, address, size, event, replies),
-        Phase::Settled(_) => refused(engine, 21),
+        Phase::Settled(_) => Err(Refusal::Settled),
     }
 }
 
@@ -250,24 +216,20 @@ pub fn event(engine: Engine, address: &[u8], size: &[u8], event: Event, replies:
 fn begun_by(session: Timing, ask: Ask, unheard: Answered) -> Engine
     ensures { result ≡ begun_by session ask unheard }
 {
-    let answer = unheard.answer;
-    let outcome = answer.outcome;
     let begun = Begun {
         ask,
         session,
         sent: unheard.sent,
     };
-    if is_refused(outcome) {
-        return Engine {
-            begun,
-            last: 0,
-            phase: Phase::Settled(unheard),
-        };
-    }
+    let phase = if is_refused(unheard.answer.outcome) {
+        Phase::Settled(unheard)
+    } else {
+        Phase::Waiting(start(asked(begun)))
+    };
     Engine {
         begun,
         last: 0,
-        phase: Phase::Waiting(start(asked(begun))),
+        phase,
     }
 }
 

@@ -7,6 +7,8 @@ use Rattle.requests.specs.declared.Call.{Call}
 use Rattle.requests.specs.declared.Call.TheVariants as call
 use Rattle.requests.specs.declared.Data.{Data}
 use Rattle.requests.specs.declared.Data.TheVariants.{Absent, Present}
+use Rattle.story_checks.specs.declared.Check.{Check}
+use Rattle.story_checks.specs.declared.Check.TheVariants as check
 use Rattle.telling.specs.Checks.{wanted_by, length?, check_line, lenient_text}
 
 -- A check by the fault that it finds: a deviation's number, 16 for a value above 64 bits; a length from 32 on, twice the least, and one more where that is the most too.
@@ -15,6 +17,23 @@ at_least n = n * 2 + 32
 
 abbrev pub exactly : ℕ → ℕ
 exactly n = n * 2 + 33
+
+-- A check's own number.
+abbrev pub number : Check → ℕ
+number (check.AtLeast n) = at_least n
+number (check.Exactly n) = exactly n
+number check.WholeRecords = 17
+number check.Identifier = 5
+number check.Routine = 6
+number check.Counter = 7
+number check.LengthFormat = 9
+number check.HalfByte = 10
+number check.BlockLength = 11
+number check.Overflow = 16
+number check.Format = 12
+number check.Address = 13
+number check.Size = 14
+number check.Memory = 15
 
 abbrev pub odd_of : Option ℕ → ℕ
 odd_of none = 0

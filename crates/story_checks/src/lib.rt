@@ -2,56 +2,53 @@
 // and those before it in the call's row passed.
 #![tactic(auto)]
 
-ghost use Rattle.std.specs.Prelude.{◌≤◌, [], ◌≡◌, eqb, length, take};
+ghost use Rattle.std.specs.Prelude.{[], ◌++◌, map, ◌≡◌, eqb};
 ghost use Rattle.rules.specs.After.{reset_length};
-ghost use Rattle.rules.specs.Answers as answers;
-ghost use Rattle.exchange.specs.Meaning.{maximum_of, deviation_of, fault_of, outcome_of};
+ghost use Rattle.rules.specs.Lines.{ascii, decimal};
+ghost use Rattle.exchange.specs.Meaning.{fault_of, outcome_of};
 ghost use Rattle.telling.specs.Checks.{wanted_by, verdict, check_line, lenient_line, is_positive, too_wide, overflows, lenient_text};
 ghost use Rattle.text.specs.Written.{Adds};
-ghost use Rattle.story_checks.specs.Coded.{odd_of, coded, bounds, wanted_of, failed_in, finding, told_by, transferred, security_code, codes_of, checks_by};
+ghost use Rattle.story_checks.specs.Coded.{number, coded, wanted_of, failed_in, finding, told_by, transferred, security_code, codes_of, checks_by};
 
-use exchange::error::{Fault, Maximum, ProtocolDeviation, deviation_number};
+use exchange::error::{Fault, ProtocolDeviation};
 use exchange::types::Outcome;
 use requests::{Call, Data};
 use text::{append, append_decimal};
-use wire::{byte_at, part};
+use wire::byte_at;
 
-// A length from 32 on, twice the least, and one more where that is the most too.
-const AT_LEAST: u16 = 32;
-
-const EXACTLY: u16 = 33;
-
-// A value above 64 bits; no check.
-const OVERFLOW: u16 = 16;
-
-const NO_CHECK: u16 = 1;
-
-// The first check of call 15: 3 bytes, and whole records of four.
-const WHOLE_RECORDS: u16 = 17;
-
-// A call's checks, in their order.
+// A check behind a positive, by what it wants of the reply.
 #[derive(Clone, Copy)]
-struct Row {
-    count: usize,
-    codes: [u16; 6],
-}
-
-// Words, and how many of the bytes they are.
-#[derive(Clone, Copy)]
-struct Words {
-    bytes: [u8; 34],
-    len: usize,
+enum Check {
+    // "(minimum, maximum)": so many bytes or more, or so many
+    AtLeast(usize),
+    Exactly(usize),
+    // of call 15: 3 bytes and whole records of four
+    WholeRecords,
+    Identifier,
+    Routine,
+    Counter,
+    // of calls 11 and 12
+    LengthFormat,
+    HalfByte,
+    BlockLength,
+    Overflow,
+    // of call 6
+    Format,
+    Address,
+    Size,
+    // of call 5
+    Memory,
 }
 
 // "2 (3, 3) or (2, 2)"
-fn reset_length(sub: u8) -> u16
+fn reset_length(sub: u8) -> usize
     ensures { result ≡ reset_length sub }
 {
     if sub % 128 == 4 { 3 } else { 2 }
 }
 
 // "13 (3 or 2, none)"
-fn transfer_length(given: Data) -> u16
+fn transfer_length(given: Data) -> usize
     ensures { result ≡ transferred given }
 {
     match given {
@@ -61,286 +58,131 @@ fn transfer_length(given: Data) -> u16
 }
 
 // "3 (3, none) or (2, 2)"
-fn security_code(sub: u8) -> u16
-    ensures { result ≡ security_code sub }
+fn security_length(sub: u8) -> Check
+    ensures { number result ≡ security_code sub }
 {
     if sub % 2 == 1 {
-        3 * 2 + AT_LEAST
+        Check::AtLeast(3)
     } else {
-        2 * 2 + EXACTLY
+        Check::Exactly(2)
     }
 }
 
-// The row of a call, by the lengths of address and size and the number of bytes that a reply to calls 11 and 12 announces.
-fn row_of(call: Call, address: u8, size: u8, announced: u8) -> Row
-    ensures { (take result.count result.codes ≡ codes_of call address size announced) × (result.count ≤ length result.codes) }
+// What a check wants; a length is told with its number.
+#[tactic(auto, unfolding(telling::specs::Checks::wanted_by))]
+fn words_of(check: Check) -> &'static [u8]
+    ensures { result.now ≡ wanted_by (number check) }
 {
-    let fields = 2 + address as u16 + size as u16;
-    let bytes = announced as u16 + 2;
-    match call {
-        Call::Request(_, _, _) => Row {
-            count: 0,
-            codes: [0, 0, 0, 0, 0, 0],
-        },
-        Call::DiagnosticSessionControl(_) => Row {
-            count: 1,
-            codes: [6 * 2 + EXACTLY, 0, 0, 0, 0, 0],
-        },
-        Call::EcuReset(sub) => Row {
-            count: 1,
-            codes: [reset_length(sub) * 2 + EXACTLY, 0, 0, 0, 0, 0],
-        },
-        Call::SecurityAccess(sub, _) => Row {
-            count: 1,
-            codes: [security_code(sub), 0, 0, 0, 0, 0],
-        },
-        Call::TesterPresent => Row {
-            count: 1,
-            codes: [2 * 2 + EXACTLY, 0, 0, 0, 0, 0],
-        },
-        Call::ReadMemoryByAddress => Row {
-            count: 2,
-            codes: [15, 2 * 2 + AT_LEAST, 0, 0, 0, 0],
-        },
-        Call::WriteMemoryByAddress => Row {
-            count: 4,
-            codes: [fields * 2 + EXACTLY, 12, 13, 14, 0, 0],
-        },
-        Call::ReadDataByIdentifier(_) => Row {
-            count: 3,
-            codes: [4 * 2 + AT_LEAST, 3 * 2 + AT_LEAST, 5, 0, 0, 0],
-        },
-        Call::WriteDataByIdentifier(_) => Row {
-            count: 3,
-            codes: [3 * 2 + EXACTLY, 3 * 2 + AT_LEAST, 5, 0, 0, 0],
-        },
-        Call::ReadDTCInformation(_) => Row {
-            count: 1,
-            codes: [6 * 2 + EXACTLY, 0, 0, 0, 0, 0],
-        },
-        Call::RoutineControl(_, _, _) => Row {
-            count: 2,
-            codes: [4 * 2 + AT_LEAST, 6, 0, 0, 0, 0],
-        },
-        Call::RequestDownload(_, _) => Row {
-            count: 6,
-            codes: [2 * 2 + AT_LEAST, 10, 9, bytes * 2 + EXACTLY, 11, OVERFLOW],
-        },
-        Call::RequestUpload(_, _) => Row {
-            count: 6,
-            codes: [2 * 2 + AT_LEAST, 10, 9, bytes * 2 + EXACTLY, 11, OVERFLOW],
-        },
-        Call::TransferData(_, given) => Row {
-            count: 3,
-            codes: [
-                transfer_length(given) * 2 + AT_LEAST,
-                2 * 2 + AT_LEAST,
-                7,
-                0,
-                0,
-                0,
-            ],
-        },
-        Call::RequestTransferExit(_) => Row {
-            count: 0,
-            codes: [0, 0, 0, 0, 0, 0],
-        },
-        Call::ReadDTCInformationDTC(_) => Row {
-            count: 2,
-            codes: [WHOLE_RECORDS, 3 * 2 + AT_LEAST, 0, 0, 0, 0],
-        },
+    match check {
+        Check::WholeRecords => b"a length of 3 plus a multiple of 4",
+        Check::Identifier => b"the identifier asked for",
+        Check::Routine => b"the routine asked for",
+        Check::Counter => b"the counter sent",
+        Check::LengthFormat => b"a block length of one byte or more",
+        Check::HalfByte => b"a low half byte of 0",
+        Check::BlockLength => b"a block length of 3 or more",
+        Check::Overflow => b"a block length of at most 64 bits",
+        Check::Format => b"the format byte sent",
+        Check::Address => b"the address sent",
+        Check::Size => b"the size sent",
+        Check::Memory => b"as many bytes as asked for",
+        Check::AtLeast(_) | Check::Exactly(_) => b"a length",
     }
 }
 
-// What a check wants, by the deviation that it finds.
-fn words_of(number: u16) -> Words
-    ensures { take result.len result.bytes ≡ wanted_by number }
-{
-    match number {
-        5 => Words {
-            bytes: *b"the identifier asked for          ",
-            len: 24,
-        },
-        6 => Words {
-            bytes: *b"the routine asked for             ",
-            len: 21,
-        },
-        7 => Words {
-            bytes: *b"the counter sent                  ",
-            len: 16,
-        },
-        9 => Words {
-            bytes: *b"a block length of one byte or more",
-            len: 34,
-        },
-        10 => Words {
-            bytes: *b"a low half byte of 0              ",
-            len: 20,
-        },
-        11 => Words {
-            bytes: *b"a block length of 3 or more       ",
-            len: 27,
-        },
-        12 => Words {
-            bytes: *b"the format byte sent              ",
-            len: 20,
-        },
-        13 => Words {
-            bytes: *b"the address sent                  ",
-            len: 16,
-        },
-        14 => Words {
-            bytes: *b"the size sent                     ",
-            len: 13,
-        },
-        15 => Words {
-            bytes: *b"as many bytes as asked for        ",
-            len: 26,
-        },
-        16 => Words {
-            bytes: *b"a block length of at most 64 bits ",
-            len: 33,
-        },
-        17 => Words {
-            bytes: *b"a length of 3 plus a multiple of 4",
-            len: 34,
-        },
-        _ => Words {
-            bytes: *b"a length                          ",
-            len: 8,
-        },
-    }
-}
-
-fn put_words(text: &mut [u8], at: usize, number: u16) -> usize
-    ensures { Adds (wanted_by number) text.old at result text.new }
-{
-    let words = words_of(number);
-    let bytes = words.bytes;
-    append(text, at, part(&bytes, 0, words.len))
-}
-
-// "(minimum, maximum)": one length, or a least one.
-fn put_length(text: &mut [u8], at: usize, least: u64, odd: u16) -> usize
-    ensures { Adds (bounds least odd) text.old at result text.new }
+fn put_length(text: &mut [u8], at: usize, least: usize) -> usize
+    ensures { Adds (ascii "length " ++ decimal least) text.old at result text.new }
 {
     let a = append(text, at, b"length ");
-    let b = append_decimal(text, a, least);
-    if odd == 0 {
-        return append(text, b, b" or more");
-    }
-    b
+    append_decimal(text, a, least as u64)
 }
 
-fn put_wanted(text: &mut [u8], at: usize, code: u16) -> usize
-    ensures { Adds (wanted_of code) text.old at result text.new }
+fn put_wanted(text: &mut [u8], at: usize, check: Check) -> usize
+    ensures { Adds (wanted_of (number check)) text.old at result text.new }
 {
-    if code < 32 {
-        return put_words(text, at, code);
+    match check {
+        Check::AtLeast(least) => {
+            let a = put_length(text, at, least);
+            append(text, a, b" or more")
+        }
+        Check::Exactly(length) => put_length(text, at, length),
+        _ => append(text, at, words_of(check)),
     }
-    put_length(text, at, ((code - 32) / 2) as u64, code % 2)
 }
 
-fn put_verdict(text: &mut [u8], at: usize, passed: bool) -> usize
-    ensures { Adds (verdict passed) text.old at result text.new }
+fn verdict(passed: bool) -> &'static [u8]
+    ensures { result.now ≡ verdict passed }
 {
     if passed {
-        return append(text, at, b": passed.\n");
+        b": passed.\n"
+    } else {
+        b": failed.\n"
     }
-    append(text, at, b": failed.\n")
 }
 
-fn put_check(text: &mut [u8], at: usize, code: u16, passed: bool) -> usize
-    ensures { Adds (check_line (wanted_of code) passed) text.old at result text.new }
+fn put_check(text: &mut [u8], at: usize, check: Check, passed: bool) -> usize
+    ensures { Adds (check_line (wanted_of (number check)) passed) text.old at result text.new }
 {
     let a = append(text, at, b"Check, ");
-    let b = put_wanted(text, a, code);
-    put_verdict(text, b, passed)
+    let b = put_wanted(text, a, check);
+    append(text, b, verdict(passed))
 }
 
-fn odd_of(most: Maximum) -> u16
-    ensures { result ≡ odd_of (maximum_of most) }
-{
-    match most {
-        Maximum::None => 0,
-        Maximum::At(_) => 1,
-    }
-}
-
-// Whether a check finds this length: from 32 on, twice the least, and one more where that is the most too.
-fn finds_length(code: u16, least: usize, most: Maximum) -> bool
-    ensures { result ≡ eqb code (coded (answers.deviation8 least (maximum_of most))) }
-{
-    let odd = odd_of(most);
-    if code < AT_LEAST {
-        return false;
-    }
-    if code % 2 != odd {
-        return false;
-    }
-    ((code - AT_LEAST) / 2) as usize == least
-}
-
-fn finds_deviation(code: u16, deviation: ProtocolDeviation) -> bool
-    ensures { result ≡ eqb code (coded (deviation_of deviation)) }
-{
-    match deviation {
-        ProtocolDeviation::InvalidResponseLength(least, most) => finds_length(code, least, most),
-        _ => code == deviation_number(deviation) as u16,
-    }
-}
-
-fn finds(code: u16, wrong: Fault) -> bool
-    ensures { result ≡ eqb code (coded (fault_of wrong)) }
+// Whether a check finds this fault: both lengths of call 15 find the same.
+fn finds(check: Check, wrong: Fault) -> bool
+    ensures { result ≡ eqb (finding (number check)) (coded (fault_of wrong)) }
 {
     match wrong {
-        Fault::ProtocolDeviation(deviation) => finds_deviation(code, deviation),
-        Fault::InvalidResponseLength => code == 0,
-        Fault::BlockLengthOverflow => code == OVERFLOW,
+        Fault::InvalidResponseLength => false,
+        Fault::BlockLengthOverflow => matches!(check, Check::Overflow),
+        Fault::ProtocolDeviation(deviation) => match deviation {
+            ProtocolDeviation::InvalidResponseLength(least, None) => match check {
+                Check::AtLeast(n) => n == least,
+                Check::WholeRecords => least == 3,
+                _ => false,
+            },
+            ProtocolDeviation::InvalidResponseLength(length, Some(_)) => {
+                matches!(check, Check::Exactly(n) if n == length)
+            }
+            ProtocolDeviation::InvalidDataIdentifier => matches!(check, Check::Identifier),
+            ProtocolDeviation::InvalidRoutineIdentifier => matches!(check, Check::Routine),
+            ProtocolDeviation::InvalidBlockSequenceCounter => matches!(check, Check::Counter),
+            ProtocolDeviation::InvalidLengthFormat => matches!(check, Check::LengthFormat),
+            ProtocolDeviation::InvalidLengthFormatIdentifier => matches!(check, Check::HalfByte),
+            ProtocolDeviation::InvalidMaxNumberOfBlockLength => {
+                matches!(check, Check::BlockLength)
+            }
+            ProtocolDeviation::InvalidAddressAndLengthFormatIdentifier => {
+                matches!(check, Check::Format)
+            }
+            ProtocolDeviation::InvalidMemoryAddress => matches!(check, Check::Address),
+            ProtocolDeviation::InvalidMemorySize => matches!(check, Check::Size),
+            ProtocolDeviation::InvalidMemoryRecordLength => matches!(check, Check::Memory),
+            _ => false,
+        },
     }
 }
 
 // Whether this check failed.
-fn is_failed(code: u16, after: Outcome) -> bool
-    ensures { result ≡ eqb code (failed_in (outcome_of [] after)) }
+fn is_failed(check: Check, after: Outcome) -> bool
+    ensures { result ≡ eqb (finding (number check)) (failed_in (outcome_of [] after)) }
 {
     match after {
-        Outcome::Fault(wrong) => finds(code, wrong),
-        Outcome::PositiveResponse(_) => code == NO_CHECK,
-        Outcome::Suppressed => code == NO_CHECK,
-        Outcome::NegativeResponse(_) => code == NO_CHECK,
-        Outcome::Timeout => code == NO_CHECK,
-        Outcome::Disconnected => code == NO_CHECK,
-        Outcome::Transport(_) => code == NO_CHECK,
-        Outcome::Refused(_) => code == NO_CHECK,
-        Outcome::PendingLimit => code == NO_CHECK,
-    }
-}
-
-// The fault that a check finds, by its number: both lengths of call 15 find the same.
-fn found_by(code: u16) -> u16
-    ensures { result ≡ finding code }
-{
-    if code == WHOLE_RECORDS {
-        3 * 2 + AT_LEAST
-    } else {
-        code
+        Outcome::Fault(wrong) => finds(check, wrong),
+        _ => false,
     }
 }
 
 // The checks of a row, as far as the one that failed.
-fn put_row(text: &mut [u8], at: usize, codes: &[u16], after: Outcome) -> usize
-    ensures { Adds (told_by codes.now (failed_in (outcome_of [] after))) text.old at result text.new }
+fn put_row(text: &mut [u8], at: usize, checks: &[Check], after: Outcome) -> usize
+    ensures { Adds (told_by (map number checks.now) (failed_in (outcome_of [] after))) text.old at result text.new }
 {
     let mut n = at;
-    let mut i = 0;
-    while i < codes.len() {
-        let code = codes[i];
-        if is_failed(found_by(code), after) {
-            return put_check(text, n, code, false);
+    for check in checks {
+        if is_failed(*check, after) {
+            return put_check(text, n, *check, false);
         }
-        n = put_check(text, n, code, true);
-        i += 1;
+        n = put_check(text, n, *check, true);
     }
     n
 }
@@ -350,49 +192,19 @@ fn put_lengths(text: &mut [u8], at: usize, passed: bool) -> usize
     ensures { Adds (lenient_line passed) text.old at result text.new }
 {
     let a = append(text, at, b"Check, the lengths that lenient needs");
-    put_verdict(text, a, passed)
+    append(text, a, verdict(passed))
 }
 
 fn is_positive(outcome: Outcome) -> bool
     ensures { result ≡ is_positive (outcome_of [] outcome) }
 {
-    match outcome {
-        Outcome::PositiveResponse(_) => true,
-        Outcome::Suppressed => false,
-        Outcome::NegativeResponse(_) => false,
-        Outcome::Timeout => false,
-        Outcome::Disconnected => false,
-        Outcome::Transport(_) => false,
-        Outcome::Fault(_) => false,
-        Outcome::Refused(_) => false,
-        Outcome::PendingLimit => false,
-    }
-}
-
-fn is_too_wide(wrong: Fault) -> bool
-    ensures { result ≡ too_wide (fault_of wrong) }
-{
-    match wrong {
-        Fault::ProtocolDeviation(_) => false,
-        Fault::InvalidResponseLength => false,
-        Fault::BlockLengthOverflow => true,
-    }
+    matches!(outcome, Outcome::PositiveResponse(_))
 }
 
 fn is_overflow(outcome: Outcome) -> bool
     ensures { result ≡ overflows (outcome_of [] outcome) }
 {
-    match outcome {
-        Outcome::PositiveResponse(_) => false,
-        Outcome::Suppressed => false,
-        Outcome::NegativeResponse(_) => false,
-        Outcome::Timeout => false,
-        Outcome::Disconnected => false,
-        Outcome::Transport(_) => false,
-        Outcome::Fault(wrong) => is_too_wide(wrong),
-        Outcome::Refused(_) => false,
-        Outcome::PendingLimit => false,
-    }
+    matches!(outcome, Outcome::Fault(Fault::BlockLengthOverflow))
 }
 
 // Lenient makes only those checks without which it could not read the data.
@@ -401,9 +213,80 @@ fn put_lenient(text: &mut [u8], at: usize, after: Outcome) -> usize
 {
     if is_overflow(after) {
         let a = put_lengths(text, at, true);
-        return put_check(text, a, OVERFLOW, false);
+        return put_check(text, a, Check::Overflow, false);
     }
     put_lengths(text, at, is_positive(after))
+}
+
+// Strict makes those of the call, by the lengths of address and size and the number of bytes that a reply to calls 11 and 12 announces.
+#[tactic(auto, unfolding(crate::specs::Coded::codes_of))]
+fn put_strict(
+    text: &mut [u8],
+    at: usize,
+    call: Call,
+    address: u8,
+    size: u8,
+    announced: u8,
+    after: Outcome,
+) -> usize
+    ensures { Adds (told_by (codes_of call address size announced) (failed_in (outcome_of [] after))) text.old at result text.new }
+{
+    let fields = 2 + address as usize + size as usize;
+    let bytes = announced as usize + 2;
+    match call {
+        Call::Request(_, _, _) | Call::RequestTransferExit(_) => put_row(text, at, &[], after),
+        Call::DiagnosticSessionControl(_) | Call::ReadDTCInformation(_) => {
+            put_row(text, at, &[Check::Exactly(6)], after)
+        }
+        Call::EcuReset(sub) => put_row(text, at, &[Check::Exactly(reset_length(sub))], after),
+        Call::SecurityAccess(sub, _) => put_row(text, at, &[security_length(sub)], after),
+        Call::TesterPresent => put_row(text, at, &[Check::Exactly(2)], after),
+        Call::ReadMemoryByAddress => {
+            put_row(text, at, &[Check::Memory, Check::AtLeast(2)], after)
+        }
+        Call::WriteMemoryByAddress => {
+            let row = [
+                Check::Exactly(fields),
+                Check::Format,
+                Check::Address,
+                Check::Size,
+            ];
+            put_row(text, at, &row, after)
+        }
+        Call::ReadDataByIdentifier(_) => {
+            let row = [Check::AtLeast(4), Check::AtLeast(3), Check::Identifier];
+            put_row(text, at, &row, after)
+        }
+        Call::WriteDataByIdentifier(_) => {
+            let row = [Check::Exactly(3), Check::AtLeast(3), Check::Identifier];
+            put_row(text, at, &row, after)
+        }
+        Call::RoutineControl(_, _, _) => {
+            put_row(text, at, &[Check::AtLeast(4), Check::Routine], after)
+        }
+        Call::RequestDownload(_, _) | Call::RequestUpload(_, _) => {
+            let row = [
+                Check::AtLeast(2),
+                Check::HalfByte,
+                Check::LengthFormat,
+                Check::Exactly(bytes),
+                Check::BlockLength,
+                Check::Overflow,
+            ];
+            put_row(text, at, &row, after)
+        }
+        Call::TransferData(_, given) => {
+            let row = [
+                Check::AtLeast(transfer_length(given)),
+                Check::AtLeast(2),
+                Check::Counter,
+            ];
+            put_row(text, at, &row, after)
+        }
+        Call::ReadDTCInformationDTC(_) => {
+            put_row(text, at, &[Check::WholeRecords, Check::AtLeast(3)], after)
+        }
+    }
 }
 
 // The checks of a reply that was heard as a positive, and what became of it.
@@ -427,8 +310,5 @@ pub fn put_checks(
     if !strict {
         return put_lenient(text, at, after);
     }
-    let row = row_of(call, address, size, byte_at(reply, 1) / 16);
-    let codes = row.codes;
-    let count = row.count;
-    put_row(text, at, &codes[..count], after)
+    put_strict(text, at, call, address, size, byte_at(reply, 1) / 16, after)
 }

@@ -72,7 +72,6 @@ module _ (strict : Bool) (a : Asked) (overall : Option ℕ) (form : Form) (liste
     pub stands : now ≡ state_of overall state
     pub passed : length state.read ≡ i
     pub fewer : length state.notices ≤ i
-    pub small : i ≤ count
     pub long : length text ≡ length before
     pub rest : {m : List ℕ} {r : ℕ} → Adds (lines (entries_from form events (count - i) i) state) text n r m → Adds whole before at r m
 
@@ -83,7 +82,6 @@ module _ (strict : Bool) (a : Asked) (overall : Option ℕ) (form : Form) (liste
     stands = e ∙ started a overall;
     passed = refl;
     fewer = omega arith;
-    small = omega arith;
     long = refl;
     rest = λ x. saying (ap (λ (k : ℕ). lines (entries_from form events k 0) (rules.start a)) (sub-zero count ∙ c)) x;
   }
@@ -147,7 +145,6 @@ module _ (strict : Bool) (a : Asked) (overall : Option ℕ) (form : Form) (liste
               stands = t.stands;
               passed = omega (arith, t.read, g.passed);
               fewer = omega (arith, t.noted, t.read, g.passed);
-              small = omega (arith, more);
               long = same ∙ g.long;
               rest = λ y. g.rest (saying
                   ((λ j. timed e.time (what listens replies e) ++ on_text listens e (g.stands j).deadline (t.stands j).read.all (t.stands j).notices.all (t.stands j).deadline ++ lines behind t.behind) ∙
@@ -180,9 +177,6 @@ module _ (form : Form) (listens : ℕ) (events replies : List ℕ) where
     pub counted : count ≡ length events / event_size form
     pub long : length text ≡ length before
     pub rest : {m : List ℕ} {r : ℕ} → Adds (rest_text form listens events replies i) text n r m → Adds (rest_text form listens events replies first) before at r m
-
-  pub rest-first : {before : List ℕ} {at i count : ℕ} → count ≡ length events / event_size form → Resting before at i count i at before
-  rest-first c = record { counted = c; long = refl; rest = λ x. x }
 
   module _ {before text : List ℕ} {at first count i n : ℕ} (g : Resting before at first count i n text) where
     pub rest-next : {e : Entry} {k : ℕ} {m : List ℕ} → e ≡ entry_at form events i → i < count

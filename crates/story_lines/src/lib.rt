@@ -7,7 +7,7 @@ ghost use Rattle.exchange.specs.Meaning.{entry_of, fault_of, outcome_of};
 ghost use Rattle.telling.specs.Words.{pairs, shown, what, timed, tail, breaks, number_of, judged, on_text, end_text, passed};
 ghost use Rattle.text.specs.Written.{Adds};
 
-use exchange::error::{Fault, deviation_number};
+use exchange::error::{Fault, ProtocolDeviation};
 use exchange::events::named;
 use exchange::types::{Event, Outcome, Settled, State};
 use text::{append, append_byte, append_decimal};
@@ -18,10 +18,8 @@ fn put_pairs(text: &mut [u8], at: usize, bytes: &[u8]) -> usize
     ensures { Adds (pairs bytes.now) text.old at result text.new }
 {
     let mut n = at;
-    let mut i = 0;
-    while i < bytes.len() {
-        n = append_byte(text, n, bytes[i]);
-        i += 1;
+    for b in bytes {
+        n = append_byte(text, n, *b);
     }
     n
 }
@@ -40,37 +38,29 @@ pub fn put_shown(text: &mut [u8], at: usize, bytes: &[u8]) -> usize
 }
 
 // A reply from the controller that was asked, or from another.
-fn put_whose(text: &mut [u8], at: usize, own: bool) -> usize
-    ensures { Adds (cond own (ascii "reply") (ascii "foreign reply")) text.old at result text.new }
+fn whose(own: bool) -> &'static [u8]
+    ensures { result.now ≡ cond own (ascii "reply") (ascii "foreign reply") }
 {
-    if own {
-        return append(text, at, b"reply");
-    }
-    append(text, at, b"foreign reply")
+    if own { b"reply" } else { b"foreign reply" }
 }
 
 // What an event is, in words and bytes.
 fn put_what(text: &mut [u8], at: usize, listens: u16, event: Event, replies: &[u8]) -> usize
     ensures { Adds (what listens replies.now (entry_of event)) text.old at result text.new }
 {
-    let kind = event.kind;
-    let size = event.size;
-    if kind == 0 {
-        let place = named(event, replies);
-        let from = place.at;
-        let len = place.len;
-        let a = put_whose(text, at, event.source == listens);
-        return put_shown(text, a, part(replies, from, len));
+    match event.kind {
+        0 => {
+            let place = named(event, replies);
+            let a = append(text, at, whose(event.source == listens));
+            put_shown(text, a, part(replies, place.at, place.len))
+        }
+        1 => append(text, at, b"idle"),
+        2 => append(text, at, b"end of stream"),
+        _ => {
+            let a = append(text, at, b"transport error");
+            put_shown(text, a, &event.size.to_be_bytes())
+        }
     }
-    if kind == 1 {
-        return append(text, at, b"idle");
-    }
-    if kind == 2 {
-        return append(text, at, b"end of stream");
-    }
-    let a = append(text, at, b"transport error");
-    let number = [(size / 256) as u8, (size % 256) as u8];
-    put_shown(text, a, &number)
 }
 
 // A time, and words behind it.
@@ -121,85 +111,66 @@ pub fn put_on(
 ) -> usize
     ensures { Adds (on_text listens (entry_of event) before next.read.all next.notices.all next.deadline) text.old at result text.new }
 {
-    let after = next.deadline;
     let events = next.read.all as u64;
     let notices = next.notices.all as u64;
-    if event.kind == 0 {
-        if event.source != listens {
-            let a = append(text, at, b": passed over (event ");
-            return put_tail(
-                text,
-                a,
-                events,
-                b"). The clock runs on: deadline ",
-                before,
-                b" -> ",
-                after,
-            );
-        }
-        let a = append(text, at, b": wait (notice ");
-        return put_tail(
-            text,
-            a,
+    let (words, count, clock): (&[u8], u64, &[u8]) = if event.kind != 0 {
+        (
+            b": nothing was heard (event ",
+            events,
+            b"). The clock runs on: deadline ",
+        )
+    } else if event.source != listens {
+        (
+            b": passed over (event ",
+            events,
+            b"). The clock runs on: deadline ",
+        )
+    } else {
+        (
+            b": wait (notice ",
             notices,
             b"). A new clock starts: deadline ",
-            before,
-            b" -> ",
-            after,
-        );
-    }
-    let a = append(text, at, b": nothing was heard (event ");
-    put_tail(
-        text,
-        a,
-        events,
-        b"). The clock runs on: deadline ",
-        before,
-        b" -> ",
-        after,
-    )
+        )
+    };
+    let a = append(text, at, words);
+    put_tail(text, a, count, clock, before, b" -> ", next.deadline)
 }
 
-// The rule that a reply broke, by its deviation.
-fn put_broken(text: &mut [u8], at: usize, number: u8) -> usize
-    ensures { Adds (breaks number) text.old at result text.new }
-{
-    match number {
-        0 => append(text, at, b": it is too short to be read (event "),
-        1 => append(text, at, b": wrong first byte, deviation 1 (event "),
-        2 => append(text, at, b": wrong second byte, deviation 2 (event "),
-        3 => append(text, at, b": wrong sub-function, deviation 3 (event "),
-        4 => append(text, at, b": silence asked for, deviation 4 (event "),
-        8 => append(text, at, b": wrong length, deviation 8 (event "),
-        _ => append(text, at, b": it breaks a rule (event "),
-    }
-}
-
-// A deviation's number; 0 and 16 for the two that have none.
-pub fn number_of(wrong: Fault) -> u8
-    ensures { result ≡ number_of (fault_of wrong) }
+// The rule that a reply broke.
+#[tactic(auto, unfolding(telling::specs::Words::breaks))]
+fn broken(wrong: Fault) -> &'static [u8]
+    ensures { result.now ≡ breaks (number_of (fault_of wrong)) }
 {
     match wrong {
-        Fault::ProtocolDeviation(deviation) => deviation_number(deviation),
-        Fault::InvalidResponseLength => 0,
-        Fault::BlockLengthOverflow => 16,
+        Fault::InvalidResponseLength => b": it is too short to be read (event ",
+        Fault::BlockLengthOverflow => b": it breaks a rule (event ",
+        Fault::ProtocolDeviation(deviation) => match deviation {
+            ProtocolDeviation::InvalidServiceId => b": wrong first byte, deviation 1 (event ",
+            ProtocolDeviation::InvalidRequestServiceId =>
+                b": wrong second byte, deviation 2 (event ",
+            ProtocolDeviation::InvalidSubFunction => b": wrong sub-function, deviation 3 (event ",
+            ProtocolDeviation::UnexpectedPositiveResponse =>
+                b": silence asked for, deviation 4 (event ",
+            ProtocolDeviation::InvalidResponseLength(_, _) =>
+                b": wrong length, deviation 8 (event ",
+            _ => b": it breaks a rule (event ",
+        },
     }
 }
 
 // What an event is judged to be, where it settles the exchange.
-fn put_judged(text: &mut [u8], at: usize, outcome: Outcome) -> usize
-    ensures { Adds (judged (outcome_of [] outcome)) text.old at result text.new }
+#[tactic(auto, unfolding(telling::specs::Words::judged, telling::specs::Words::breaks))]
+fn judged(outcome: Outcome) -> &'static [u8]
+    ensures { result.now ≡ judged (outcome_of [] outcome) }
 {
     match outcome {
-        Outcome::PositiveResponse(_) => append(text, at, b": taken as positive (event "),
-        Outcome::NegativeResponse(_) => { append(text, at, b": refused by its code (event ") }
-        Outcome::PendingLimit => append(text, at, b": one wait notice too many (event "),
-        Outcome::Disconnected => append(text, at, b": disconnected (event "),
-        Outcome::Transport(_) => append(text, at, b": the transport failed (event "),
-        Outcome::Fault(wrong) => put_broken(text, at, number_of(wrong)),
-        Outcome::Suppressed => put_broken(text, at, 16),
-        Outcome::Timeout => put_broken(text, at, 16),
-        Outcome::Refused(_) => put_broken(text, at, 16),
+        Outcome::PositiveResponse(_) => b": taken as positive (event ",
+        Outcome::NegativeResponse(_) => b": refused by its code (event ",
+        Outcome::PendingLimit => b": one wait notice too many (event ",
+        Outcome::Disconnected => b": disconnected (event ",
+        Outcome::Transport(_) => b": the transport failed (event ",
+        Outcome::Fault(wrong) => broken(wrong),
+        _ => b": it breaks a rule (event ",
     }
 }
 
@@ -207,27 +178,18 @@ fn put_judged(text: &mut [u8], at: usize, outcome: Outcome) -> usize
 pub fn put_end(text: &mut [u8], at: usize, event: Event, before: u64, settled: Settled) -> usize
     ensures { Adds (end_text (entry_of event) before (outcome_of [] settled.outcome) settled.read.all settled.time) text.old at result text.new }
 {
-    let outcome = settled.outcome;
-    let finish = settled.time;
-    let events = settled.read.all as u64;
-    let a = put_judged(text, at, outcome);
-    if (event.time as u64) < finish {
-        return put_tail(
-            text,
-            a,
-            events,
-            b"). Call is to wait until ",
-            finish,
-            b" ms; deadline ",
-            before,
-        );
-    }
+    let ends: &[u8] = if (event.time as u64) < settled.time {
+        b"). Call is to wait until "
+    } else {
+        b"). Call ends at "
+    };
+    let a = append(text, at, judged(settled.outcome));
     put_tail(
         text,
         a,
-        events,
-        b"). Call ends at ",
-        finish,
+        settled.read.all as u64,
+        ends,
+        settled.time,
         b" ms; deadline ",
         before,
     )
@@ -237,21 +199,12 @@ pub fn put_end(text: &mut [u8], at: usize, event: Event, before: u64, settled: S
 pub fn put_late(text: &mut [u8], at: usize, state: State) -> usize
     ensures { Adds (timed state.deadline (passed state.hush)) text.old at result text.new }
 {
-    let deadline = state.deadline;
-    if state.hush {
-        return put_timed(
-            text,
-            at,
-            deadline,
-            b"deadline: no answer came in time, as was asked for. The call ends as suppressed.\n",
-        );
-    }
-    put_timed(
-        text,
-        at,
-        deadline,
-        b"deadline: no answer came in time. The call ends as timeout.\n",
-    )
+    let words: &[u8] = if state.hush {
+        b"deadline: no answer came in time, as was asked for. The call ends as suppressed.\n"
+    } else {
+        b"deadline: no answer came in time. The call ends as timeout.\n"
+    };
+    put_timed(text, at, state.deadline, words)
 }
 
 // T.

@@ -7,7 +7,7 @@ use Rattle.rules.specs.Answers as answers
 use Rattle.rules.specs.Events.{entries}
 use Rattle.rules.specs.Exchange as rules
 use Rattle.exchange.specs.Guarded.{guarded}
-use Rattle.exchange.specs.Meaning.{form_of, asked_of, overall_of, part_of, outcome_of, answer_of}
+use Rattle.exchange.specs.Meaning.{form_of, asked_of, option_of, part_of, outcome_of, answer_of}
 use Rattle.exchange.specs.Places.{Answers}
 use Rattle.exchange.specs.States.{start_of}
 use Rattle.exchange.specs.declared.types.Answer.{Answer}
@@ -56,17 +56,17 @@ begins-same strict request a e = λ j. begins strict request (rules.state (e j).
 abbrev text : Ask → List ℕ → ℕ → ℕ → List ℕ → List ℕ → Answer → rules.Asked → List ℕ
 text ask request address size events replies answer a =
     begins ask.strict request (rules.start a) ++
-    joined ask.channel.listens replies (tell ask.strict a (overall_of ask.overall) ask.channel.listens replies (entries (form_of ask.channel.form) events) (rules.start a)) ++
+    joined ask.channel.listens replies (tell ask.strict a (option_of ask.overall) ask.channel.listens replies (entries (form_of ask.channel.form) events) (rules.start a)) ++
     checks_by ask.strict ask.call address size (part_of replies answer.reply).bytes
-    (guarded ask.strict a (overall_of ask.overall) (form_of ask.channel.form) ask.channel.listens events replies).outcome (outcome_of [] answer.outcome) ++
+    (guarded ask.strict a (option_of ask.overall) (form_of ask.channel.form) ask.channel.listens events replies).outcome (outcome_of [] answer.outcome) ++
     concludes (answer_of [] answer)
 
 pub called : (ask : Ask) (session : Timing) (request : List ℕ) (address size : ℕ) (events : List ℕ) (answer : Answer) {replies : List ℕ} {heard : Answer} {asked : Asked} {s : State}
     → asked ≡ asked_by ask session → s ≡ start_of (asked_of asked)
-    → Answers replies heard (guarded ask.strict (asked_of asked) (overall_of ask.overall) (form_of ask.channel.form) ask.channel.listens events replies)
+    → Answers replies heard (guarded ask.strict (asked_of asked) (option_of ask.overall) (form_of ask.channel.form) ask.channel.listens events replies)
     → {l m o p q : List ℕ} {n k i r : ℕ} → Adds (begins ask.strict request (rules.state s.hush s.deadline [] [])) l 0 n m
     → Adds (joined ask.channel.listens replies
-    (tell ask.strict (asked_of asked) (overall_of ask.overall) ask.channel.listens replies (entries (form_of ask.channel.form) events) (rules.start (asked_of asked)))) m n k o
+    (tell ask.strict (asked_of asked) (option_of ask.overall) ask.channel.listens replies (entries (form_of ask.channel.form) events) (rules.start (asked_of asked)))) m n k o
     → Adds (checks_by ask.strict ask.call address size (part_of replies answer.reply).bytes (outcome_of [] heard.outcome) (outcome_of [] answer.outcome)) o k i p
     → Adds (concludes (answer_of [] answer)) p i r q
     → Adds (call_text ask session request address size events replies answer) l 0 r q

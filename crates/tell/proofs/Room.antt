@@ -1,4 +1,5 @@
 -- A buffer of 163,840 bytes has room for every story.
+use Rattle.std.specs.Prelude.{Some, None}
 use Prim.Native.Nat.{ℕ, ◌/◌, ◌≤◌, ◌<◌}
 use native.Mathlib.Omega.{arith}
 use mathlib.Core.Bool.{Bool, true, false, cond}
@@ -23,7 +24,6 @@ use Rattle.telling.specs.Telling.{Told, told_in, lines_of, heard_in, by_refusal,
 use Rattle.telling.proofs.Fitting.{joined-long, tell-long, entries-long, begins-long, checks-long, concludes-long, declined-long}
 use Rattle.text.specs.Written.{Adds}
 use Rattle.tell.specs.Told.{Tells}
-use Rattle.tell.specs.declared.Told.TheVariants.{Story, NoRoom}
 use Rattle.tell.proofs.Sounding.{is_made, not_made, made_one}
 
 refusal-long : (o : Outcome) → length (by_refusal o []) ≤ 155000
@@ -82,15 +82,15 @@ module _ (l : List ℕ) where
 
 -- What `tell` answers.
 module _ (l before : List ℕ) where
-  pub no_room : length before < 163840 → Tells l before NoRoom before
+  pub no_room : length before < 163840 → Tells l before None before
   no_room h = let less = lt-leb 163840 (length before) h in record { answer = rw less; text = rw less }
 
-  pub told : {after : List ℕ} {r : ℕ} → ((i : ℕ) → get_or l i 0 < 256) → 163840 ≤ length before → Adds (story l) before 0 r after → Tells l before (Story r) after
+  pub told : {after : List ℕ} {r : ℕ} → ((i : ℕ) → get_or l i 0 < 256) → 163840 ≤ length before → Adds (story l) before 0 r after → Tells l before (Some r) after
   unfolding put
   told bytes h a =
       let fits = le-leb 163840 (length before) h in
       let p = a.put (omega (arith, story-long l bytes)) in
-      record { answer = rw fits (ap Story (p.next ∙ zero-add (length (story l)))); text = rw fits (p.line ∙ rw zero-add) }
+      record { answer = rw fits (ap Some (p.next ∙ zero-add (length (story l)))); text = rw fits (p.line ∙ rw zero-add) }
 
 -- By whether the layout is sound.
 module _ (l : List ℕ) where

@@ -19,8 +19,9 @@ use Rattle.rules.specs.Logs.{Header, header_of, flag, address_of, size_of, event
 use Rattle.rules.specs.Refusals.{arguments, refusals}
 use Rattle.rules.specs.Settings.{Setting, Lent}
 use Rattle.rules.proofs.Judging.{judge-ind, pass-append}
+use Rattle.wire.specs.declared.refusal.Refusal.{Refusal}
 use Rattle.exchange.specs.Guarded.{guarded}
-use Rattle.exchange.specs.Meaning.{asked_of, overall_of, form_of, sub_of, outcome_of, answer_of}
+use Rattle.exchange.specs.Meaning.{asked_of, option_of, form_of, outcome_of, answer_of}
 use Rattle.exchange.specs.declared.types.Answer.{Answer}
 use Rattle.exchange.specs.declared.types.Outcome.{Outcome}
 use Rattle.exchange.specs.declared.types.Outcome.TheVariants as outcome
@@ -73,6 +74,18 @@ not_made (answers.transport n) x y e = absurd (true≢false (sym e))
 not_made (answers.fault f) x y e = absurd (true≢false (sym e))
 not_made (answers.refused n) x y e = refl
 
+-- Which outcome is a refusal.
+pub not-refused : (o : Outcome) → ((r : Refusal) → o ≡ outcome.Refused r → ⊥) → is_refused (outcome_of [] o) ≡ false
+not-refused (outcome.PositiveResponse p) k = refl
+not-refused outcome.Suppressed k = refl
+not-refused (outcome.NegativeResponse n) k = refl
+not-refused outcome.Timeout k = refl
+not-refused outcome.Disconnected k = refl
+not-refused (outcome.Transport n) k = refl
+not-refused (outcome.Fault f) k = refl
+not-refused (outcome.Refused r) k = absurd (k r refl)
+not-refused outcome.PendingLimit k = refl
+
 -- A refusal does not hang on where a reply stands.
 refusal-anywhere : (l : List ℕ) (o : Outcome) → by_refusal (outcome_of [] o) [] ≡ by_refusal (outcome_of l o) []
 refusal-anywhere l (outcome.PositiveResponse p) = refl
@@ -97,27 +110,27 @@ made_one (answers.fault f) x e = refl
 made_one (answers.refused n) x e = absurd (true≢false e)
 
 -- Which check failed does not hang on where the reply stands.
-checks-anywhere : (k : Call) (a s : ℕ) (r l : List ℕ) (strict : Bool) (heard : answers.Outcome) (o : Outcome)
-    → checks_by strict k a s r heard (outcome_of [] o) ≡ checks_by strict k a s r heard (outcome_of l o)
+checks-anywhere : (k : Call) (a s : ℕ) (r l : List ℕ) (strict : Bool) (first : answers.Outcome) (o : Outcome)
+    → checks_by strict k a s r first (outcome_of [] o) ≡ checks_by strict k a s r first (outcome_of l o)
 unfolding lenient_text
-checks-anywhere k a s r l true heard (outcome.PositiveResponse p) = refl
-checks-anywhere k a s r l true heard outcome.Suppressed = refl
-checks-anywhere k a s r l true heard (outcome.NegativeResponse n) = refl
-checks-anywhere k a s r l true heard outcome.Timeout = refl
-checks-anywhere k a s r l true heard outcome.Disconnected = refl
-checks-anywhere k a s r l true heard (outcome.Transport n) = refl
-checks-anywhere k a s r l true heard (outcome.Fault f) = refl
-checks-anywhere k a s r l true heard (outcome.Refused n) = refl
-checks-anywhere k a s r l true heard outcome.PendingLimit = refl
-checks-anywhere k a s r l false heard (outcome.PositiveResponse p) = refl
-checks-anywhere k a s r l false heard outcome.Suppressed = refl
-checks-anywhere k a s r l false heard (outcome.NegativeResponse n) = refl
-checks-anywhere k a s r l false heard outcome.Timeout = refl
-checks-anywhere k a s r l false heard outcome.Disconnected = refl
-checks-anywhere k a s r l false heard (outcome.Transport n) = refl
-checks-anywhere k a s r l false heard (outcome.Fault f) = refl
-checks-anywhere k a s r l false heard (outcome.Refused n) = refl
-checks-anywhere k a s r l false heard outcome.PendingLimit = refl
+checks-anywhere k a s r l true first (outcome.PositiveResponse p) = refl
+checks-anywhere k a s r l true first outcome.Suppressed = refl
+checks-anywhere k a s r l true first (outcome.NegativeResponse n) = refl
+checks-anywhere k a s r l true first outcome.Timeout = refl
+checks-anywhere k a s r l true first outcome.Disconnected = refl
+checks-anywhere k a s r l true first (outcome.Transport n) = refl
+checks-anywhere k a s r l true first (outcome.Fault f) = refl
+checks-anywhere k a s r l true first (outcome.Refused n) = refl
+checks-anywhere k a s r l true first outcome.PendingLimit = refl
+checks-anywhere k a s r l false first (outcome.PositiveResponse p) = refl
+checks-anywhere k a s r l false first outcome.Suppressed = refl
+checks-anywhere k a s r l false first (outcome.NegativeResponse n) = refl
+checks-anywhere k a s r l false first outcome.Timeout = refl
+checks-anywhere k a s r l false first outcome.Disconnected = refl
+checks-anywhere k a s r l false first (outcome.Transport n) = refl
+checks-anywhere k a s r l false first (outcome.Fault f) = refl
+checks-anywhere k a s r l false first (outcome.Refused n) = refl
+checks-anywhere k a s r l false first outcome.PendingLimit = refl
 
 concludes-anywhere : (l : List ℕ) (x : Answer) → concludes (answer_of [] x) ≡ concludes (answer_of l x)
 unfolding concludes
@@ -137,7 +150,7 @@ module _ (ask : Ask) (session : Timing) (a s d es rs : List ℕ) where
   asks =
       let k = ask.call in
       let sid : (row_of k).sid ≡ sid_of c = sym (sid-is (given a) (given s) d k) in
-      let sub : sub_of (bit7 ask.quiet (row_of k).sub) ≡ with_bit7 ask.quiet (rules.sub_of c) =
+      let sub : option_of (bit7 ask.quiet (row_of k).sub) ≡ with_bit7 ask.quiet (rules.sub_of c) =
       sent-sub ask.quiet (row_of k).sub ∙ ap (with_bit7 ask.quiet) (sym (sub_is (given a) (given s) d k))
       in
       λ i. record { sid = sid i; sub = sub i; timing = w.timing; limit = w.limit }
@@ -174,13 +187,13 @@ module _ (ask : Ask) (session : Timing) (a s d es rs : List ℕ) where
         (sym answer-is) (checks-told ask.strict ask.call (given a) (given s) d listened.reply listened.outcome)
 
     abbrev guard : exchange.Asked → answers.Answer
-    guard x = guarded ask.strict x (overall_of ask.overall) (form_of ask.channel.form) ask.channel.listens es rs
+    guard x = guarded ask.strict x (option_of ask.overall) (form_of ask.channel.form) ask.channel.listens es rs
 
     abbrev text : List ℕ → exchange.Asked → List ℕ → List ℕ → List ℕ
     text q x told ends =
         begins ask.strict q (exchange.start x) ++
         Words.joined ask.channel.listens rs
-        (Story.tell ask.strict x (overall_of ask.overall) ask.channel.listens rs (Events.entries (form_of ask.channel.form) es) (exchange.start x)) ++
+        (Story.tell ask.strict x (option_of ask.overall) ask.channel.listens rs (Events.entries (form_of ask.channel.form) es) (exchange.start x)) ++
         told ++
         ends
 
@@ -192,7 +205,7 @@ module _ (ask : Ask) (session : Timing) (a s d es rs : List ℕ) where
         (checks-anywhere ask.call (length a) (length s) y.reply.bytes rs ask.strict (guard first).outcome r.answer.outcome) ∙
         (λ i. text (request i) (asks i) (by y.reply.bytes (guard (asks i)).outcome y.outcome) (concludes-anywhere rs r.answer i)) ∙
         ap (λ (x : answers.Answer). text q (asked w c) (by y.reply.bytes x.outcome y.outcome) (concludes y))
-        (opens ask.strict (asked w c) (overall_of ask.overall) lent fine.1) ∙
+        (opens ask.strict (asked w c) (option_of ask.overall) lent fine.1) ∙
         ap (λ (t : List ℕ). text q (asked w c) t (concludes y)) checks
 
 -- Address and size have at most the bytes that a header says.

@@ -3,7 +3,7 @@ use Rattle.std.specs.Prelude.{ℕ, List, [], ◌++◌}
 use Rattle.rules.specs.Events.{entries}
 use Rattle.rules.specs.Exchange as rules
 use Rattle.exchange.specs.Guarded.{guarded}
-use Rattle.exchange.specs.Meaning.{form_of, asked_of, overall_of, part_of, outcome_of, answer_of}
+use Rattle.exchange.specs.Meaning.{form_of, asked_of, option_of, part_of, outcome_of, answer_of}
 use Rattle.exchange.specs.declared.types.Answer.{Answer}
 use Rattle.exchange.specs.declared.types.Asked.{Asked}
 use Rattle.exchange.specs.declared.types.Timing.{Timing}
@@ -28,8 +28,8 @@ call_text ask session request address size events replies answer =
     let a = asked_of (asked_by ask session) in
     let form = form_of ask.channel.form in
     let listens = ask.channel.listens in
-    let heard = (guarded ask.strict a (overall_of ask.overall) form listens events replies).outcome in
+    let heard = (guarded ask.strict a (option_of ask.overall) form listens events replies).outcome in
     begins ask.strict request (rules.start a) ++
-    joined listens replies (tell ask.strict a (overall_of ask.overall) listens replies (entries form events) (rules.start a)) ++
+    joined listens replies (tell ask.strict a (option_of ask.overall) listens replies (entries form events) (rules.start a)) ++
     checks_by ask.strict ask.call address size (part_of replies answer.reply).bytes heard (outcome_of [] answer.outcome) ++
     concludes (answer_of [] answer)

@@ -1,5 +1,5 @@
 -- Laws of the line's numerals.
-use Prim.Native.Nat.{ℕ, zero, suc, ◌+◌, ◌-◌, ◌*◌, ◌/◌, ◌%◌, ◌^◌, ◌≤◌, ◌<◌}
+use Prim.Native.Nat.{ℕ, zero, suc, ◌+◌, ◌*◌, ◌/◌, ◌%◌, ◌^◌, ◌≤◌, ◌<◌}
 use native.Mathlib.Numerals.{add-one}
 use native.Mathlib.Omega.{arith}
 use mathlib.Core.Bool.{Bool, true, false, cond}
@@ -8,7 +8,9 @@ use mathlib.Core.Path.{◌≡◌, refl, sym, ◌∙◌, ap}
 use lib.Dec.{leb, ltb}
 use lib.ListN.{length, take, get_or, length-append}
 use lib.Seq.{take-suc}
-use borrow.Author.Tests.{lt-ltb, le-ltb, ltb-true, ltb-false, le-leb, lt-leb, leb-true, leb-false}
+use borrow.Author.Tests.{lt-ltb, le-ltb, leb-true}
+use Rattle.std.specs.Int.{to_be_bytes, w16}
+use Rattle.rules.specs.Bytes.{two}
 use Rattle.rules.specs.Lines.{digit, decimal_to, decimal, hex, hex_or_dash}
 use Rattle.text.specs.Written.{shown, text, behind, hex_behind, item}
 
@@ -62,6 +64,12 @@ digits (suc k) (suc j) v h = go (ltb v 10) (digits k j (v / 10) (omega arith))
     go true e = omega arith
     go false e = simp length-append (omega arith)
 
+-- The bytes of a number of 16 bits.
+pub two-bytes : (n : ℕ) → n < 2 ^ 16 → to_be_bytes w16 n ≡ two n
+two-bytes n h =
+    let high : n / 256 % 256 ≡ n / 256 = omega arith in
+    rw high
+
 pub hex-append : (a b : List ℕ) → hex (a ++ b) ≡ hex a ++ hex b
 hex-append [] b = refl
 hex-append (x ∷ a) b = ap (λ (l : List ℕ). digit (x / 16) ∷ digit (x % 16) ∷ l) (hex-append a b)
@@ -86,14 +94,6 @@ shown-double (suc n) = omega arith
 pub shown-fits : (n left : ℕ) → n * 2 ≤ left → 1 ≤ left → shown n ≤ left
 shown-fits zero left h l = l
 shown-fits (suc n) left h l = h
-
--- Where twice the bytes fit into what is left, the detail fits exactly if anything is left.
-pub shown-room : (line front left n : ℕ) → front + left ≡ line → n * 2 ≤ left → ltb 0 left ≡ leb (front + shown n) line
-shown-room line front left n e h = go (ltb 0 left) refl
-  where
-    go : (b : Bool) → ltb 0 left ≡ b → b ≡ leb (front + shown n) line
-    go true t = sym (le-leb (front + shown n) line (omega (arith, shown-fits n left h (ltb-true 0 left t))))
-    go false t = sym (lt-leb (front + shown n) line (omega (arith, shown-least n, ltb-false 0 left t)))
 
 shown-length : (d : List ℕ) → length (hex_or_dash d) ≡ shown (length d)
 shown-length [] = refl
@@ -130,30 +130,18 @@ pub behind-some : (bs : List ℕ) → (length bs ≡ 0 → ⊥) → hex_behind b
 behind-some [] h = absurd (h refl)
 behind-some (b ∷ bs) h = refl
 
-pub no_bytes : (n digits : ℕ) → n ≡ 0 → digits + 1 + shown n ≡ digits + 2 + behind n
-no_bytes zero digits h = omega arith
-no_bytes (suc n) digits h = absurd (omega arith)
+-- Whether an item fits from index at on, by what `fits` says of its parts.
+module _ (word bs : List ℕ) (n at line beside : ℕ) {digits : ℕ} {t : Bool} (ed : digits ≡ length (decimal n))
+    (en : beside + shown (length bs) ≡ digits + 2 + behind (length bs))
+    (et : t ≡ leb (at + (length word + beside) + shown (0 + length bs)) line) where
+  pub item-room : leb (at + length (item word n bs)) line ≡ t
+  item-room =
+      let bytes : length bs ≡ 0 + length bs = omega arith in
+      let long : at + length (item word n bs) ≡ at + (length word + beside) + shown (length bs) = omega (arith, item-length word bs n) in
+      ap (λ (k : ℕ). leb k line) long ∙ ap (λ (k : ℕ). leb (at + (length word + beside) + shown k) line) bytes ∙ sym et
 
-pub some_bytes : (n digits : ℕ) → (n ≡ 0 → ⊥) → digits + 3 + shown n ≡ digits + 2 + behind n
-some_bytes zero digits h = absurd (h refl)
-some_bytes (suc n) digits h = omega arith
-
--- Whether a line of these parts fits from index at on, by what `fits` says of the room behind it.
-module _ (word bs : List ℕ) (n at line numbers digits : ℕ) {t : Bool} (ed : digits ≡ length (decimal n))
-    (en : numbers + shown (length bs) ≡ digits + 2 + behind (length bs)) (inside : at ≤ line)
-    (et : t ≡ leb (length word + numbers + shown (0 + length bs)) (line - at)) where
-  plainly : leb (length word + numbers + shown (length bs)) (line - at) ≡ t
-  plainly =
-      let same : length bs ≡ 0 + length bs = omega arith in
-      ap (λ (k : ℕ). leb (length word + numbers + shown k) (line - at)) same ∙ sym et
-
-  pub item-fits : t ≡ true → at + (length word + (length (decimal n) + 2 + length (hex_behind bs))) ≤ line
-  item-fits e =
-      omega (arith, leb-true (length word + numbers + shown (length bs)) (line - at) (plainly ∙ e), behind-length bs)
-
-  pub item-full : t ≡ false → line < at + length (item word n bs)
-  item-full e =
-      omega (arith, leb-false (length word + numbers + shown (length bs)) (line - at) (plainly ∙ e), item-length word bs n)
+  pub item-parts : t ≡ true → at + (length word + (length (decimal n) + 2 + length (hex_behind bs))) ≤ line
+  item-parts e = omega (arith, leb-true (at + length (item word n bs)) line (item-room ∙ e), item-length word bs n, behind-length bs)
 
 -- The text's length, by the lengths of its parts.
 pub text-length : (w d : List ℕ) (t e n : ℕ) {x y z k : ℕ} →

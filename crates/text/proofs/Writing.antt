@@ -1,17 +1,19 @@
 -- Laws of writing into a lent line: two writes, one behind the other, are one write.
-use Prim.Native.Nat.{ℕ, ◌+◌, ◌≤◌, ◌<◌}
+use Rattle.std.specs.Prelude.{Some, None}
+use Prim.Native.Nat.{ℕ, ◌+◌, ◌-◌, ◌≤◌, ◌<◌}
 use native.Mathlib.Nat.{add_assoc, add-zero, zero-add}
 use native.Mathlib.Numerals.{add-one}
 use native.Mathlib.Omega.{arith}
 use mathlib.Core.Bool.{true, false}
 use mathlib.Core.List.{List, [], ◌∷◌, ◌++◌, append_assoc, append-nil}
 use mathlib.Core.Path.{◌≡◌, refl, sym, ◌∙◌, ap}
-use borrow.Author.Tests.{le-leb, lt-leb}
+use borrow.Author.Tests.{le-leb}
 use lib.Dec.{leb}
 use lib.ListN.{length, take, drop, set, length-append, take-append-drop}
-use lib.Seq.{length-take-le, take_at, drop-append-add, drop-drop, append_snoc, set_split}
+use borrow.Rule.Slice.PartMut.{put_mid}
+use Rattle.std.proofs.lemmas.Slice.{put_mid-paste}
+use lib.Seq.{take-length, length-take-le, take_at, drop-append-add, drop-drop, append_snoc, set_split}
 use Rattle.text.specs.Written.{put, Put, Wrote, Appended}
-use Rattle.text.specs.declared.Written.TheVariants.{Line, NoRoom}
 
 put-put : (l a b : List ℕ) (at : ℕ) → at + length a ≤ length l → put (put l at a) (at + length a) b ≡ put l at (a ++ b)
 unfolding put
@@ -34,6 +36,14 @@ pub one : (l : List ℕ) (at b : ℕ) → at < length l → Put l at (b ∷ []) 
 unfolding put
 one l at b h = record { next = refl; line = set_split l at b h ∙ rw (append_snoc, add-one) }
 
+-- A copy into a part of the line, as long as what is copied.
+pub copied : (l : List ℕ) (at : ℕ) (bs : List ℕ) {part : List ℕ} → part ≡ bs → Put l at bs (put_mid at (at + length bs - at) l part) (at + length bs)
+unfolding put
+copied l at bs {part} same = record {
+  next = refl;
+  line = put_mid-paste at (at + length bs - at) l part bs (length bs) same (omega arith) refl ∙ rw take-length;
+}
+
 pub none : (l : List ℕ) (at : ℕ) → Put l at [] l at
 unfolding put
 none l at = record {
@@ -52,23 +62,23 @@ joined h p₁ p₂ p₃ p₄ p₅ =
 
 -- What `put_line` says and leaves, where the text has no room and where it stands at the front.
 module _ (bs l : List ℕ) where
-  pub no_room : leb (length bs) (length l) ≡ false → Wrote bs l NoRoom l
+  pub no_room : leb (length bs) (length l) ≡ false → Wrote bs l None l
   no_room e = record { answer = rw e; line = rw e }
 
-  pub wrote : {m : List ℕ} {r : ℕ} → leb (length bs) (length l) ≡ true → Put l 0 bs m r → Wrote bs l (Line r) m
+  pub wrote : {m : List ℕ} {r : ℕ} → leb (length bs) (length l) ≡ true → Put l 0 bs m r → Wrote bs l (Some r) m
   unfolding put
   wrote e p = record {
-    answer = rw e (ap Line (p.next ∙ zero-add (length bs)));
+    answer = rw e (ap Some (p.next ∙ zero-add (length bs)));
     line = rw e (p.line ∙ rw zero-add);
   }
 
 -- A text that is appended, where it has no room and where it has.
 module _ (bs l : List ℕ) (at : ℕ) where
-  pub not-appended : length l < at + length bs → Appended bs l at at l
-  not-appended h = let less = lt-leb (at + length bs) (length l) h in record { end = rw less; line = rw less }
+  pub not-appended : leb (at + length bs) (length l) ≡ false → Appended bs l at at l
+  not-appended less = record { end = rw less; line = rw less }
 
-  pub appended : {m : List ℕ} {r : ℕ} → at + length bs ≤ length l → Put l at bs m r → Appended bs l at r m
-  appended h p = let fits = le-leb (at + length bs) (length l) h in record { end = rw fits p.next; line = rw fits p.line }
+  pub appended : {m : List ℕ} {r : ℕ} → leb (at + length bs) (length l) ≡ true → Put l at bs m r → Appended bs l at r m
+  appended fits p = record { end = rw fits p.next; line = rw fits p.line }
 
   pub was-put : {m : List ℕ} {r : ℕ} → at + length bs ≤ length l → Appended bs l at r m → Put l at bs m r
   was-put h p =

@@ -1,8 +1,8 @@
 -- Text in a lent buffer.
+use Rattle.std.specs.Prelude as code
+use Rattle.std.specs.Prelude.{Some, None}
 use Rattle.std.specs.Prelude.{ℕ, zero, suc, ◌+◌, ◌*◌, ◌≤◌, cond, List, [], ◌∷◌, ◌++◌, ◌≡◌, leb, length, take, drop}
 use Rattle.rules.specs.Lines.{decimal, hex, hex_or_dash, spaced}
-use Rattle.text.specs.declared.Written.{Written}
-use Rattle.text.specs.declared.Written.TheVariants.{Line, NoRoom}
 
 -- The bytes bs put into l from index at on.
 unfoldable pub put : List ℕ → ℕ → List ℕ → List ℕ
@@ -34,8 +34,8 @@ room word time events notices detail =
     word + (length (decimal time) + length (decimal events) + length (decimal notices) + 5) + shown detail
 
 -- The text stands at the buffer's front and the rest keeps its bytes; where there is no room, all of it does.
-pub record Wrote (bs before : List ℕ) (r : Written) (after : List ℕ) : Type 0 where
-  pub answer : r ≡ cond (leb (length bs) (length before)) (Line (length bs)) NoRoom
+pub record Wrote (bs before : List ℕ) (r : code.Option ℕ) (after : List ℕ) : Type 0 where
+  pub answer : r ≡ cond (leb (length bs) (length before)) (Some (length bs)) None
   pub line : after ≡ cond (leb (length bs) (length before)) (bs ++ drop (length bs) before) before
 
 -- A word, and a number behind a space.

@@ -5,18 +5,9 @@ ghost use Rattle.std.specs.Prelude.{◌≡◌, [], ◌∷◌, ◌++◌, ◌+◌,
 ghost use Rattle.rules.specs.Lines.{digit, decimal, hex, hex_or_dash, spaced};
 ghost use Rattle.text.specs.Written.{Put, Wrote, Appended, text, counted, shown, room, behind, hex_behind, item};
 
-pub mod words;
-
 // A buffer of so many bytes has room for every line of document 01. The longest is a deviation's: the word's 9 letters, 8,192 digits for its number and
 // a reply of 4,095 bytes, 10 digits of time (2 · 4,294,967,295 at most), 3 digits each of events and notices, four spaces and the newline.
 pub const LONGEST: usize = 8222;
-
-// How long the line is that stands at the buffer's front; or the buffer has no room for it, and is left as it was.
-#[derive(Clone, Copy)]
-pub enum Written {
-    Line(usize),
-    NoRoom,
-}
 
 fn put_byte(line: &mut [u8], at: usize, byte: u8) -> usize
     requires { at < length line.old }
@@ -30,15 +21,12 @@ fn put_word(line: &mut [u8], at: usize, word: &[u8]) -> usize
     requires { at + length word.now ≤ length line.old }
     ensures { Put line.old at word.now line.new result }
 {
-    let mut n = at;
-    let mut i = 0;
-    while i < word.len() {
-        n = put_byte(line, n, word[i]);
-        i += 1;
-    }
-    n
+    let end = at + word.len();
+    line[at..end].copy_from_slice(word);
+    end
 }
 
+// A number below 16 as its digit in hex.
 fn digit(d: u8) -> u8
     requires { d < 16 }
     ensures { result ≡ digit d }
@@ -46,17 +34,15 @@ fn digit(d: u8) -> u8
     if d < 10 { d + 48 } else { d + 87 }
 }
 
+// The digits of bytes, from index `at` on.
 fn put_hex(line: &mut [u8], at: usize, bytes: &[u8]) -> usize
     requires { at + length (hex bytes.now) ≤ length line.old }
     ensures { Put line.old at (hex bytes.now) line.new result }
 {
     let mut n = at;
-    let mut i = 0;
-    while i < bytes.len() {
-        let b = bytes[i];
-        n = put_byte(line, n, digit(b / 16));
-        n = put_byte(line, n, digit(b % 16));
-        i += 1;
+    for b in bytes {
+        n = put_byte(line, n, digit(*b / 16));
+        n = put_byte(line, n, digit(*b % 16));
     }
     n
 }
@@ -143,24 +129,15 @@ fn put_rest(
     put_byte(line, d, b'\n')
 }
 
-// Whether a line of these parts fits; the lengths may be any, and their sum may pass 64 bits.
-fn fits(line: usize, word: usize, numbers: usize, head: usize, bytes: usize) -> bool
-    ensures { result ≡ leb (word + numbers + shown (head + bytes)) line }
+// Whether a line of these parts fits behind its first `front` characters; the lengths may be any, and their sum may pass 64 bits.
+fn fits(line: usize, front: usize, long: usize, head: usize, bytes: usize) -> bool
+    ensures { result ≡ leb (front + long + shown (head + bytes)) line }
 {
-    if word > line {
+    if front > line || long > line - front {
         return false;
     }
-    if numbers > line - word {
-        return false;
-    }
-    let left = line - word - numbers;
-    if head > left / 2 {
-        return false;
-    }
-    if bytes > left / 2 - head {
-        return false;
-    }
-    left > 0
+    let left = line - front - long;
+    left > 0 && head <= left / 2 && bytes <= left / 2 - head
 }
 
 // Whether a line with these numbers fits. Most buffers have room for the longest, of 20 digits each, so digits are not counted there. The 5 are the
@@ -183,7 +160,9 @@ fn has_room(
     fits(line, word, numbers, head, bytes)
 }
 
-// Writes the line at the buffer's front, or nothing where there is no room for it.
+// Writes the line at the buffer's front, or nothing where there is no room for it. Put into each caller, so that a word that stands there is stored in one
+// move, and what a literal costs is paid by the outcome that has it.
+#[inline(always)]
 pub fn put_line(
     line: &mut [u8],
     word: &[u8],
@@ -192,7 +171,7 @@ pub fn put_line(
     notices: u64,
     head: &[u8],
     bytes: &[u8],
-) -> Written
+) -> Option<usize>
     ensures { Wrote (text word.now time events notices (head.now ++ bytes.now)) line.old result line.new }
 {
     if !has_room(
@@ -204,10 +183,17 @@ pub fn put_line(
         head.len(),
         bytes.len(),
     ) {
-        return Written::NoRoom;
+        return None;
     }
     let a = put_word(line, 0, word);
-    Written::Line(put_rest(line, a, time, events, notices, head, bytes))
+    Some(put_rest(line, a, time, events, notices, head, bytes))
+}
+
+// Whether so many characters fit from index `at` on, which may be any.
+fn holds(line: usize, at: usize, characters: usize) -> bool
+    ensures { result ≡ leb (at + characters) line }
+{
+    at <= line && characters <= line - at
 }
 
 // Writes a word, and a number behind a space, from index `at` on; the answer is where they end. Where there is no room, nothing changes and
@@ -215,13 +201,7 @@ pub fn put_line(
 pub fn put_counted(line: &mut [u8], at: usize, word: &[u8], number: u64) -> usize
     ensures { Appended (counted word.now number) line.old at result line.new }
 {
-    if at > line.len() {
-        return at;
-    }
-    if word.len() > line.len() - at {
-        return at;
-    }
-    if decimal_length(number) >= line.len() - at - word.len() {
+    if !holds(line.len(), at, word.len() + decimal_length(number) + 1) {
         return at;
     }
     let n = put_word(line, at, word);
@@ -254,11 +234,8 @@ fn beside(digits: usize, bytes: usize) -> usize
 pub fn put_item(line: &mut [u8], at: usize, word: &[u8], number: u64, bytes: &[u8]) -> usize
     ensures { Appended (item word.now number bytes.now) line.old at result line.new }
 {
-    if at > line.len() {
-        return at;
-    }
-    let numbers = beside(decimal_length(number), bytes.len());
-    if !fits(line.len() - at, word.len(), numbers, 0, bytes.len()) {
+    let long = word.len() + beside(decimal_length(number), bytes.len());
+    if !fits(line.len(), at, long, 0, bytes.len()) {
         return at;
     }
     let a = put_word(line, at, word);
@@ -271,10 +248,7 @@ pub fn put_item(line: &mut [u8], at: usize, word: &[u8], number: u64, bytes: &[u
 pub fn append(line: &mut [u8], at: usize, word: &[u8]) -> usize
     ensures { Appended word.now line.old at result line.new }
 {
-    if at > line.len() {
-        return at;
-    }
-    if word.len() > line.len() - at {
+    if !holds(line.len(), at, word.len()) {
         return at;
     }
     put_word(line, at, word)
@@ -284,13 +258,23 @@ pub fn append(line: &mut [u8], at: usize, word: &[u8]) -> usize
 pub fn append_decimal(line: &mut [u8], at: usize, number: u64) -> usize
     ensures { Appended (decimal number) line.old at result line.new }
 {
-    if at > line.len() {
-        return at;
-    }
-    if decimal_length(number) > line.len() - at {
+    if !holds(line.len(), at, decimal_length(number)) {
         return at;
     }
     put_decimal(line, at, number)
+}
+
+// Writes bytes as two digits each, in the same way.
+pub fn append_hex(line: &mut [u8], at: usize, bytes: &[u8]) -> usize
+    ensures { Appended (hex bytes.now) line.old at result line.new }
+{
+    if at > line.len() {
+        return at;
+    }
+    if bytes.len() > (line.len() - at) / 2 {
+        return at;
+    }
+    put_hex(line, at, bytes)
 }
 
 // Writes a byte as a space and two digits, in the same way.

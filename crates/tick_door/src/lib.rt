@@ -3,7 +3,6 @@
 
 ghost use Rattle.step_door.specs.Stepping.{Ticked};
 
-use log_call::Fields;
 use state_numbers::{WAITING, ask_in, asking, engine_in, told};
 
 // The time since sending, in milliseconds. The answers are those of an event, 10 aside.
@@ -14,14 +13,14 @@ pub fn bintrochis_door_tick(state: &mut [u64; 28], time: u64) -> u8
     if s[0] != WAITING {
         return 21;
     }
-    let Fields::Ask(ask) = ask_in(s) else {
+    let Some(ask) = ask_in(s) else {
         return 1;
     };
-    let stepped = steps::tick(engine_in(ask, s), time);
-    let refusal = stepped.refusal;
-    if refusal != 0 {
-        return refusal;
+    match steps::tick(engine_in(ask, s), time) {
+        Ok(engine) => {
+            *state = told(engine, asking(s));
+            0
+        }
+        Err(refusal) => u8::from(refusal),
     }
-    *state = told(stepped.engine, asking(s));
-    0
 }

@@ -2,13 +2,12 @@
 // each sent by call 13 with its counter and answered.
 #![tactic(auto)]
 
-use blocks::Cut;
 use calls::{Answered, Ask};
-use exchange::types::{Channel, Form, NoticeLimit, RequestTimeout, Timing};
+use exchange::types::{Channel, Form, Timing};
 use log_line::answers::put_answer;
-use requests::{Call, Data};
+use requests::Call;
 use std::io;
-use text::{LONGEST, Written};
+use text::LONGEST;
 use uds::UDSClient;
 
 fn say(rt: &impl Print, text: &[u8]) -> io::Result<()> {
@@ -20,8 +19,8 @@ fn show(rt: &impl Print, answered: Answered, replies: &[u8]) -> io::Result<()> {
     let mut line = [0u8; LONGEST];
     let answer = answered.answer;
     match put_answer(&mut line, answer, replies) {
-        Written::Line(n) => say(rt, wire::part(&line, 0, n)),
-        Written::NoRoom => Ok(()),
+        Some(n) => say(rt, wire::part(&line, 0, n)),
+        None => Ok(()),
     }
 }
 
@@ -34,15 +33,14 @@ fn transfer(
     k: u64,
 ) -> io::Result<()> {
     match blocks::counter(data, length, k) {
-        Cut::Counter(counter) => {
+        Ok(counter) => {
             let block = blocks::block(data, length, k);
             let mut request = [0u8; 64];
             let events = [0, 0, 0, 12, 0, 0, 0, 0, 0, 2];
             let replies = [0x76, counter];
             let answered = client.transfer_data(
                 counter,
-                Data::Present,
-                block,
+                Some(block),
                 &mut request,
                 &events,
                 &replies,
@@ -52,7 +50,10 @@ fn transfer(
             say(rt, b": ")?;
             show(rt, answered, &replies)
         }
-        Cut::Refused(number) => { println!(rt; "no further block: refused {number}") }
+        Err(refusal) => {
+            let number = u8::from(refusal);
+            println!(rt; "no further block: refused {number}")
+        }
     }
 }
 
@@ -64,8 +65,8 @@ fn identify(rt: &impl Print) -> io::Result<()> {
         quiet: false,
         strict: true,
         server: false,
-        overall: RequestTimeout::Never,
-        limit: NoticeLimit::Unlimited,
+        overall: None,
+        limit: None,
         channel: Channel {
             form: Form::Plain,
             listens: 0,

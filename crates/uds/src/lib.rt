@@ -2,17 +2,17 @@
 // each, or twelve with addresses) and the reply bytes. Above each is its row of document 01's table: request -> strict positive -> data handed out; s is the sub-function with bit 7 cleared.
 #![tactic(auto)]
 
-ghost use Rattle.std.specs.Prelude.{Bool, [], ◌≡◌};
+ghost use Rattle.std.specs.Prelude.{[], ◌≡◌};
 ghost use Rattle.rules.specs.Calls as rules;
 ghost use Rattle.rules.specs.Calls.{session, reset, security, tester_present, read_memory, write_memory, read_identifier, write_identifier, fault_count, fault_list, routine, download, upload, transfer, transfer_exit, alfid};
-ghost use Rattle.exchange.specs.Meaning.{sub_of};
+ghost use Rattle.exchange.specs.Meaning.{option_of};
 ghost use Rattle.requests.specs.Meaning.{data_of, call_from, call_of};
-ghost use Rattle.uds.specs.Clients.{session_of, kept_by, ask_of, Asks};
+ghost use Rattle.uds.specs.Clients.{session_of, kept_by, ask_of, given, Asks};
 ghost use Rattle.uds.specs.Defaults.{defaults};
 
 use calls::{Answered, Ask, run, run_alfid};
 use config::UDSConfig;
-use exchange::types::{SubFunction, Timing};
+use exchange::types::Timing;
 use requests::{Call, Data};
 use suppressed::SuppressedUDSClient;
 
@@ -20,12 +20,16 @@ pub mod config;
 pub mod suppressed;
 pub mod types;
 
-// UDS Client: a configuration and the session's timing, by value. An answer has the timing afterwards.
+// A configuration and the session's timing, by value. An answer has the timing afterwards. The view with `QUIET` suppresses positive responses: it sets
+// bit 7 of the sub-function. A call without a sub-function is the same on both, and requires a response.
 #[derive(Clone, Copy)]
-pub struct UDSClient {
+pub struct Client<const QUIET: bool> {
     pub config: UDSConfig,
     pub session: Timing,
 }
+
+// UDS Client. Its view is `suppressed::SuppressedUDSClient`.
+pub type UDSClient = Client<false>;
 
 impl UDSClient {
     pub fn new() -> UDSClient
@@ -38,53 +42,66 @@ impl UDSClient {
     pub fn with_config(config: UDSConfig) -> UDSClient
         ensures { (result.config ≡ config) × (result.session ≡ session_of config) }
     {
-        let session = Timing {
-            p2: config.p2_timeout,
-            star: config.p2_star_timeout,
-        };
-        UDSClient { config, session }
+        Client {
+            config,
+            session: Timing {
+                p2: config.p2_timeout,
+                star: config.p2_star_timeout,
+            },
+        }
     }
 
     // A view that suppresses positive responses for requests with a sub-function.
     pub fn suppress_positive_responses(self) -> SuppressedUDSClient
-        ensures { result.client ≡ self }
+        ensures { (result.config ≡ self.config) × (result.session ≡ self.session) }
     {
-        let client = self;
-        SuppressedUDSClient { client }
+        Client {
+            config: self.config,
+            session: self.session,
+        }
     }
+}
 
+// Data as the calls take it: whether it is given, and its bytes.
+fn lent<'a>(data: Option<&'a [u8]>) -> (Data, &'a [u8])
+    ensures { data_of result.0 result.1.now ≡ given «data».entry }
+{
+    match data {
+        None => (Data::Absent, b""),
+        Some(bytes) => (Data::Present, bytes),
+    }
+}
+
+impl<const QUIET: bool> Client<QUIET> {
     // The client behind a call: it keeps the session's timing, as the Rust's client does, whose views share it.
-    pub fn after(self, answered: Answered) -> UDSClient
-        ensures { result ≡ kept_by self answered }
+    pub fn after(self, answered: Answered) -> Client<QUIET>
+        ensures { result ≡ kept_by self.entry answered }
     {
-        let config = self.config;
-        let session = answered.timing;
-        UDSClient { config, session }
+        Client {
+            config: self.config,
+            session: answered.timing,
+        }
     }
 
-    // How this client asks; `quiet` says that the suppressed view does.
-    fn ask(self, quiet: bool, call: Call) -> Ask
-        ensures { result ≡ ask_of self quiet call }
+    // How this client asks.
+    fn ask(self, call: Call) -> Ask
+        ensures { result ≡ ask_of self.entry QUIET call }
     {
         let config = self.config;
-        let overall = config.request_timeout;
-        let limit = config.notice_limit;
-        let channel = config.channel;
         Ask {
             call,
-            quiet,
+            quiet: QUIET,
             strict: config.strict,
             server: config.use_server_timing,
-            overall,
-            limit,
-            channel,
+            overall: config.request_timeout,
+            limit: config.notice_limit,
+            channel: config.channel,
         }
     }
 
     // The calls with an address and a size as bytes, those without, and those with both as numbers.
     fn call_memory(
         self,
-        quiet: bool,
         call: Call,
         address: &[u8],
         size: &[u8],
@@ -93,13 +110,12 @@ impl UDSClient {
         events: &[u8],
         replies: &[u8],
     ) -> Answered
-        ensures { Asks self quiet (call_of call address.now size.now «data».now)
+        ensures { Asks self.entry QUIET (call_of call address.now size.now «data».now)
             request.old events.now replies.now result request.new }
     {
-        let session = self.session;
         run(
-            session,
-            self.ask(quiet, call),
+            self.session,
+            self.ask(call),
             request,
             address,
             size,
@@ -111,16 +127,15 @@ impl UDSClient {
 
     fn call(
         self,
-        quiet: bool,
         call: Call,
         data: &[u8],
         request: &mut [u8],
         events: &[u8],
         replies: &[u8],
     ) -> Answered
-        ensures { Asks self quiet (call_of call [] [] «data».now) request.old events.now replies.now result request.new }
+        ensures { Asks self.entry QUIET (call_of call [] [] «data».now) request.old events.now replies.now result request.new }
     {
-        self.call_memory(quiet, call, b"", b"", data, request, events, replies)
+        self.call_memory(call, b"", b"", data, request, events, replies)
     }
 
     fn call_alfid(
@@ -135,22 +150,20 @@ impl UDSClient {
         events: &[u8],
         replies: &[u8],
     ) -> Answered
-        ensures { Asks self Bool.false
-            (call_from call (alfid address address_width self.config.wide) (alfid size size_width self.config.wide)
+        ensures { Asks self.entry QUIET
+            (call_from call (alfid address address_width self.entry.config.wide) (alfid size size_width self.entry.config.wide)
             «data».now) request.old events.now replies.now result
             request.new }
     {
-        let session = self.session;
-        let config = self.config;
         run_alfid(
-            session,
-            self.ask(false, call),
+            self.session,
+            self.ask(call),
             request,
             address,
             size,
             address_width,
             size_width,
-            config.wide,
+            self.config.wide,
             data,
             events,
             replies,
@@ -162,20 +175,19 @@ impl UDSClient {
     pub fn request(
         self,
         sid: u8,
-        sub_function: SubFunction,
-        given: Data,
-        data: &[u8],
+        sub_function: Option<u8>,
+        data: Option<&[u8]>,
         request: &mut [u8],
         events: &[u8],
         replies: &[u8],
     ) -> Answered
-        ensures { Asks self Bool.false (rules.request sid (sub_of sub_function) (data_of given «data».now))
+        ensures { Asks self.entry QUIET (rules.request sid (option_of sub_function) (given «data».entry))
             request.old events.now replies.now result request.new }
     {
+        let (given, bytes) = lent(data);
         self.call(
-            false,
             Call::Request(sid, sub_function, given),
-            data,
+            bytes,
             request,
             events,
             replies,
@@ -191,10 +203,9 @@ impl UDSClient {
         events: &[u8],
         replies: &[u8],
     ) -> Answered
-        ensures { Asks self Bool.false (session session_type) request.old events.now replies.now result request.new }
+        ensures { Asks self.entry QUIET (session session_type) request.old events.now replies.now result request.new }
     {
         self.call(
-            false,
             Call::DiagnosticSessionControl(session_type),
             b"",
             request,
@@ -212,16 +223,9 @@ impl UDSClient {
         events: &[u8],
         replies: &[u8],
     ) -> Answered
-        ensures { Asks self Bool.false (reset reset_type) request.old events.now replies.now result request.new }
+        ensures { Asks self.entry QUIET (reset reset_type) request.old events.now replies.now result request.new }
     {
-        self.call(
-            false,
-            Call::EcuReset(reset_type),
-            b"",
-            request,
-            events,
-            replies,
-        )
+        self.call(Call::EcuReset(reset_type), b"", request, events, replies)
     }
 
     // 0x27 - Security Access. Odd values request a seed; even values send a key, which must be given.
@@ -229,19 +233,18 @@ impl UDSClient {
     pub fn security_access(
         self,
         access_type: u8,
-        given: Data,
-        data: &[u8],
+        data: Option<&[u8]>,
         request: &mut [u8],
         events: &[u8],
         replies: &[u8],
     ) -> Answered
-        ensures { Asks self Bool.false (security access_type (data_of given «data».now)) request.old
+        ensures { Asks self.entry QUIET (security access_type (given «data».entry)) request.old
             events.now replies.now result request.new }
     {
+        let (given, bytes) = lent(data);
         self.call(
-            false,
             Call::SecurityAccess(access_type, given),
-            data,
+            bytes,
             request,
             events,
             replies,
@@ -251,9 +254,9 @@ impl UDSClient {
     // 0x3E - Tester Present.
     // 3E 00 -> 7E 00 -> none
     pub fn tester_present(self, request: &mut [u8], events: &[u8], replies: &[u8]) -> Answered
-        ensures { Asks self Bool.false (tester_present) request.old events.now replies.now result request.new }
+        ensures { Asks self.entry QUIET (tester_present) request.old events.now replies.now result request.new }
     {
-        self.call(false, Call::TesterPresent, b"", request, events, replies)
+        self.call(Call::TesterPresent, b"", request, events, replies)
     }
 
     // 0x22 - Read Data By Identifier.
@@ -265,10 +268,9 @@ impl UDSClient {
         events: &[u8],
         replies: &[u8],
     ) -> Answered
-        ensures { Asks self Bool.false (read_identifier data_identifier) request.old events.now replies.now result request.new }
+        ensures { Asks self.entry QUIET (read_identifier data_identifier) request.old events.now replies.now result request.new }
     {
         self.call(
-            false,
             Call::ReadDataByIdentifier(data_identifier),
             b"",
             request,
@@ -287,12 +289,11 @@ impl UDSClient {
         events: &[u8],
         replies: &[u8],
     ) -> Answered
-        ensures { Asks self Bool.false
+        ensures { Asks self.entry QUIET
             (read_memory (rules.given memory_address.now) (rules.given memory_size.now))
             request.old events.now replies.now result request.new }
     {
         self.call_memory(
-            false,
             Call::ReadMemoryByAddress,
             memory_address,
             memory_size,
@@ -314,9 +315,9 @@ impl UDSClient {
         events: &[u8],
         replies: &[u8],
     ) -> Answered
-        ensures { Asks self Bool.false
-            (read_memory (alfid memory_address address_width self.config.wide)
-            (alfid memory_size size_width self.config.wide)) request.old events.now
+        ensures { Asks self.entry QUIET
+            (read_memory (alfid memory_address address_width self.entry.config.wide)
+            (alfid memory_size size_width self.entry.config.wide)) request.old events.now
             replies.now result request.new }
     {
         self.call_alfid(
@@ -342,11 +343,10 @@ impl UDSClient {
         events: &[u8],
         replies: &[u8],
     ) -> Answered
-        ensures { Asks self Bool.false (write_identifier data_identifier data_record.now) request.old
+        ensures { Asks self.entry QUIET (write_identifier data_identifier data_record.now) request.old
             events.now replies.now result request.new }
     {
         self.call(
-            false,
             Call::WriteDataByIdentifier(data_identifier),
             data_record,
             request,
@@ -366,13 +366,12 @@ impl UDSClient {
         events: &[u8],
         replies: &[u8],
     ) -> Answered
-        ensures { Asks self Bool.false
+        ensures { Asks self.entry QUIET
             (write_memory (rules.given memory_address.now) (rules.given memory_size.now)
             «data».now) request.old events.now replies.now result
             request.new }
     {
         self.call_memory(
-            false,
             Call::WriteMemoryByAddress,
             memory_address,
             memory_size,
@@ -395,9 +394,9 @@ impl UDSClient {
         events: &[u8],
         replies: &[u8],
     ) -> Answered
-        ensures { Asks self Bool.false
-            (write_memory (alfid memory_address address_width self.config.wide)
-            (alfid memory_size size_width self.config.wide) «data».now) request.old
+        ensures { Asks self.entry QUIET
+            (write_memory (alfid memory_address address_width self.entry.config.wide)
+            (alfid memory_size size_width self.entry.config.wide) «data».now) request.old
             events.now replies.now result request.new }
     {
         self.call_alfid(
@@ -422,10 +421,9 @@ impl UDSClient {
         events: &[u8],
         replies: &[u8],
     ) -> Answered
-        ensures { Asks self Bool.false (fault_count mask) request.old events.now replies.now result request.new }
+        ensures { Asks self.entry QUIET (fault_count mask) request.old events.now replies.now result request.new }
     {
         self.call(
-            false,
             Call::ReadDTCInformation(mask),
             b"",
             request,
@@ -443,10 +441,9 @@ impl UDSClient {
         events: &[u8],
         replies: &[u8],
     ) -> Answered
-        ensures { Asks self Bool.false (fault_list mask) request.old events.now replies.now result request.new }
+        ensures { Asks self.entry QUIET (fault_list mask) request.old events.now replies.now result request.new }
     {
         self.call(
-            false,
             Call::ReadDTCInformationDTC(mask),
             b"",
             request,
@@ -461,19 +458,18 @@ impl UDSClient {
         self,
         routine_control_type: u8,
         routine_identifier: u16,
-        given: Data,
-        data: &[u8],
+        data: Option<&[u8]>,
         request: &mut [u8],
         events: &[u8],
         replies: &[u8],
     ) -> Answered
-        ensures { Asks self Bool.false (routine routine_control_type routine_identifier (data_of given «data».now))
+        ensures { Asks self.entry QUIET (routine routine_control_type routine_identifier (given «data».entry))
             request.old events.now replies.now result request.new }
     {
+        let (given, bytes) = lent(data);
         self.call(
-            false,
             Call::RoutineControl(routine_control_type, routine_identifier, given),
-            data,
+            bytes,
             request,
             events,
             replies,
@@ -492,13 +488,12 @@ impl UDSClient {
         events: &[u8],
         replies: &[u8],
     ) -> Answered
-        ensures { Asks self Bool.false
+        ensures { Asks self.entry QUIET
             (download compression_method encryption_method (rules.given memory_address.now)
             (rules.given memory_size.now)) request.old events.now replies.now result
             request.new }
     {
         self.call_memory(
-            false,
             Call::RequestDownload(compression_method, encryption_method),
             memory_address,
             memory_size,
@@ -522,9 +517,9 @@ impl UDSClient {
         events: &[u8],
         replies: &[u8],
     ) -> Answered
-        ensures { Asks self Bool.false
-            (download compression_method encryption_method (alfid memory_address address_width self.config.wide)
-            (alfid memory_size size_width self.config.wide)) request.old events.now
+        ensures { Asks self.entry QUIET
+            (download compression_method encryption_method (alfid memory_address address_width self.entry.config.wide)
+            (alfid memory_size size_width self.entry.config.wide)) request.old events.now
             replies.now result request.new }
     {
         self.call_alfid(
@@ -552,13 +547,12 @@ impl UDSClient {
         events: &[u8],
         replies: &[u8],
     ) -> Answered
-        ensures { Asks self Bool.false
+        ensures { Asks self.entry QUIET
             (upload compression_method encryption_method (rules.given memory_address.now)
             (rules.given memory_size.now)) request.old events.now replies.now result
             request.new }
     {
         self.call_memory(
-            false,
             Call::RequestUpload(compression_method, encryption_method),
             memory_address,
             memory_size,
@@ -582,9 +576,9 @@ impl UDSClient {
         events: &[u8],
         replies: &[u8],
     ) -> Answered
-        ensures { Asks self Bool.false
-            (upload compression_method encryption_method (alfid memory_address address_width self.config.wide)
-            (alfid memory_size size_width self.config.wide)) request.old events.now
+        ensures { Asks self.entry QUIET
+            (upload compression_method encryption_method (alfid memory_address address_width self.entry.config.wide)
+            (alfid memory_size size_width self.entry.config.wide)) request.old events.now
             replies.now result request.new }
     {
         self.call_alfid(
@@ -605,19 +599,18 @@ impl UDSClient {
     pub fn transfer_data(
         self,
         block_sequence_counter: u8,
-        given: Data,
-        data: &[u8],
+        data: Option<&[u8]>,
         request: &mut [u8],
         events: &[u8],
         replies: &[u8],
     ) -> Answered
-        ensures { Asks self Bool.false (transfer block_sequence_counter (data_of given «data».now))
+        ensures { Asks self.entry QUIET (transfer block_sequence_counter (given «data».entry))
             request.old events.now replies.now result request.new }
     {
+        let (given, bytes) = lent(data);
         self.call(
-            false,
             Call::TransferData(block_sequence_counter, given),
-            data,
+            bytes,
             request,
             events,
             replies,
@@ -628,18 +621,17 @@ impl UDSClient {
     // 37 data? -> 77 + 0.. -> all
     pub fn request_transfer_exit(
         self,
-        given: Data,
-        data: &[u8],
+        data: Option<&[u8]>,
         request: &mut [u8],
         events: &[u8],
         replies: &[u8],
     ) -> Answered
-        ensures { Asks self Bool.false (transfer_exit (data_of given «data».now)) request.old events.now replies.now result request.new }
+        ensures { Asks self.entry QUIET (transfer_exit (given «data».entry)) request.old events.now replies.now result request.new }
     {
+        let (given, bytes) = lent(data);
         self.call(
-            false,
             Call::RequestTransferExit(given),
-            data,
+            bytes,
             request,
             events,
             replies,

@@ -9,42 +9,30 @@ pub struct SessionParameterRecord {
     pub p2_star_server_max: u32,
 }
 
-#[derive(Clone, Copy)]
-pub enum SessionRecord {
-    None,
-    Some(SessionParameterRecord),
-}
-
 // Of four bytes: P2 is the first pair, P2* ten times the second.
-pub fn session_parameter_record(bytes: &[u8]) -> SessionRecord
+pub fn session_parameter_record(bytes: &[u8]) -> Option<SessionParameterRecord>
     ensures { result ≡ session_record bytes.now }
 {
     if bytes.len() == 4 {
         let p2 = wire::u16_at(bytes, 0) as u32;
         let star = wire::u16_at(bytes, 2) as u32 * 10;
-        SessionRecord::Some(SessionParameterRecord {
+        Some(SessionParameterRecord {
             p2_server_max: p2,
             p2_star_server_max: star,
         })
     } else {
-        SessionRecord::None
+        None
     }
 }
 
-#[derive(Clone, Copy)]
-pub enum PowerDownTime {
-    None,
-    Some(u8),
-}
-
 // The byte of an ECUReset (0x11) that enables rapid power shut down.
-pub fn power_down_time(bytes: &[u8]) -> PowerDownTime
+pub fn power_down_time(bytes: &[u8]) -> Option<u8>
     ensures { result ≡ power_down bytes.now }
 {
     if bytes.len() == 1 {
-        PowerDownTime::Some(wire::byte_at(bytes, 0))
+        Some(wire::byte_at(bytes, 0))
     } else {
-        PowerDownTime::None
+        None
     }
 }
 
@@ -72,22 +60,16 @@ pub struct DTCReportNumberByStatusMask {
     pub dtc_count: u16,
 }
 
-#[derive(Clone, Copy)]
-pub enum DTCReport {
-    None,
-    Some(DTCReportNumberByStatusMask),
-}
-
-pub fn dtc_report_number_by_status_mask(bytes: &[u8]) -> DTCReport
+pub fn dtc_report_number_by_status_mask(bytes: &[u8]) -> Option<DTCReportNumberByStatusMask>
     ensures { result ≡ fault_report bytes.now }
 {
     if bytes.len() == 4 {
-        DTCReport::Some(DTCReportNumberByStatusMask {
+        Some(DTCReportNumberByStatusMask {
             dtc_status_availability_mask: wire::byte_at(bytes, 0),
             dtc_format_identifier: wire::byte_at(bytes, 1),
             dtc_count: wire::u16_at(bytes, 2),
         })
     } else {
-        DTCReport::None
+        None
     }
 }

@@ -1,5 +1,5 @@
 -- An input that comes in any pieces is answered as `output` of `bench` says. What is kept of a line that is too long is as little a request as the line.
-use Prim.Native.Nat.{ℕ, suc, ◌+◌, ◌-◌, ◌%◌, ◌≤◌, min}
+use Prim.Native.Nat.{ℕ, ◌+◌, ◌-◌, ◌%◌, ◌≤◌, min}
 use native.Mathlib.Omega.{arith}
 use mathlib.Core.Bool.{Bool, true, false, cond}
 use mathlib.Core.Path.{◌≡◌, refl, sym, ◌∙◌, ap}
@@ -15,17 +15,10 @@ use Rattle.rules.specs.Refusals.{between}
 use Rattle.rules.proofs.Judging.{both}
 use Rattle.bench.specs.Stores.{store_ok}
 use Rattle.bench.specs.Talk.{is_digit, is_hex_digit, number_from, unended, space_at, digits, number, numbered, line_tests, newline, Talked, talked, to_line, talk, answers, onto_first, lines_of, output}
+use Rattle.bench_line.proofs.Reading.{space-inside}
 use Rattle.udsbench.specs.Hearing.{Bench, bench, heard, hearing, said_to, saying, last_to, hearing_all, saying_all, joined, spoken, Hearing}
 
 -- How long a line may be that can be read.
-space-inside : (l : List ℕ) → space_at l ≤ length l
-space-inside [] = omega arith
-space-inside (c ∷ l) = go (eqb c 32) (space-inside l)
-  where
-    go : (b : Bool) → space_at l ≤ length l → cond b 0 (suc (space_at l)) ≤ suc (length l)
-    go true h = omega arith
-    go false h = omega arith
-
 readable-short : (u : List ℕ) → all (line_tests u) ≡ true → length u ≤ 8195
 readable-short u h =
     let a = (both (eqb (length (digits u) % 2) 0) _ h).1 in

@@ -1,11 +1,8 @@
 -- An input that comes piece by piece: the store as it stands, and what has come of a line. What is said of it is `output` of `bench`, however it is cut.
-use Rattle.std.specs.Prelude.{ℕ, ◌≤◌, cond, true, ◌≡◌, List, [], ◌∷◌, ◌++◌, eqb, length, take}
+use Rattle.std.specs.Prelude.{ℕ, ◌≤◌, cond, Bool, true, false, ◌≡◌, List, [], ◌∷◌, ◌++◌, eqb, length, take}
 use Rattle.bench.specs.Stores.{store_ok}
 use Rattle.bench.specs.Talk.{talk, output}
-use Rattle.udsbench.specs.declared.Input.{Input}
-use Rattle.udsbench.specs.declared.Input.TheVariants.{More, End}
-use Rattle.udsbench.specs.declared.Loaded.{Loaded}
-use Rattle.udsbench.specs.declared.Loaded.TheVariants.{Bytes, Failed}
+use Rattle.udsbench.specs.declared.kept.Kept.{Kept}
 
 pub record Bench : Type 0 where
   pub store : List ℕ
@@ -47,29 +44,21 @@ abbrev pub joined : List (List ℕ) → List ℕ
 joined [] = []
 joined (piece ∷ pieces) = piece ++ joined pieces
 
--- The code's store, kept bytes and their number are the bench's.
-pub record Heard (b : Bench) (store kept : List ℕ) (n : ℕ) : Type 0 where
-  pub is : bench store (take n kept) ≡ b
-  pub whole : length kept ≡ 8197
-  pub most : n ≤ 8197
+-- The bench as the code has it.
+abbrev pub line_in : Kept → List ℕ
+line_in k = take k.len k.bytes
 
-abbrev pub Keeps : Input → Type 0
-Keeps (More n) = n ≤ 8197
-Keeps End = Unit {0}
+abbrev pub bench_of : List ℕ → Kept → Bench
+bench_of store k = bench store (line_in k)
 
 -- A piece of the input came and was heard; or none came, since it has ended, and all stays as it was.
-abbrev pub Goes : Bench → List ℕ → ℕ → Type 0 → Input → List ℕ → List ℕ → Type 0
-Goes b piece len ended (More n) store kept = (1 ≤ length piece) × Heard (hearing b piece) store kept n
-Goes b piece len ended End store kept = ended × (piece ≡ []) × Heard b store kept len
+abbrev pub Goes : Bench → List ℕ → Type 0 → Bool → Bench → Type 0
+Goes b piece ended true after = (1 ≤ length piece) × (after ≡ hearing b piece)
+Goes b piece ended false after = ended × (piece ≡ []) × (after ≡ b)
 
 -- All that is said of an input: the answers to its lines, and in the end to what is left of one.
 abbrev pub spoken : List ℕ → List ℕ → List ℕ
 spoken l input = let b = hearing (bench l []) input in saying (bench l []) input ++ last_to b.store b.line
-
--- What was read fits the buffer.
-abbrev pub Fills : Loaded → ℕ → Type 0
-Fills (Bytes n) m = n ≤ m
-Fills Failed m = Unit {0}
 
 pub record Hearing : Type 0 where
   -- Whatever the pieces are that an input comes in, what is said of them is all that `udsbench` writes.

@@ -4,14 +4,19 @@ use native.Mathlib.Omega.{arith}
 use mathlib.Core.Bool.{Bool, true, false, cond, false≢true, ◌&&◌}
 use mathlib.Core.List.{List, [], ◌∷◌, ◌++◌}
 use mathlib.Core.Path.{◌≡◌, refl, sym, ◌∙◌, ap, ap₂}
-use lib.Dec.{leb}
+use lib.Dec.{leb, eqb}
 use lib.ListN.{length, take, drop, length-take}
 use lib.Seq.{take_at, take-take}
-use borrow.Author.Tests.{le-leb, eq-eqb, ne_eqb}
+use borrow.Author.Tests.{le-leb, eq-eqb}
+use Rattle.std.specs.Prelude as option
+use Rattle.std.specs.Prelude.{Some, None, Result, Ok, Err}
+use Rattle.std.specs.Option.{unwrap_or}
 use Rattle.rules.specs.Logs.{area}
 use Rattle.text.specs.Written.{Put, put}
-use Rattle.exchange.specs.declared.types.Place.{Place}
 use Rattle.wire.specs.Buffers.{with}
+use Rattle.wire.specs.Refusing.{refusal_number}
+use Rattle.wire.specs.declared.refusal.Refusal.{Refusal}
+use Rattle.exchange.specs.declared.types.Place.{Place}
 use Rattle.bookkeeping.specs.Layout.{book_of, logs_in}
 use Rattle.bookkeeping.specs.Summary.{afresh, raised}
 use Rattle.bookkeeping.specs.Book as bookkeeping
@@ -21,16 +26,12 @@ use Rattle.bookkeeping.specs.Said.{lines_from, refusal}
 use Rattle.bookkeeping.proofs.Books.{came, opened, what-a-book-is, adding-gives-a-book}
 use Rattle.bookkeeping.proofs.Counting.{raises}
 use Rattle.book.specs.Answered as code
-use Rattle.book.specs.declared.Added.TheVariants.{Book, Refused, NoRoom}
+use Rattle.book.specs.declared.BookError.{BookError}
+use Rattle.book.specs.declared.BookError.TheVariants.{Refused, NoRoom}
 use Rattle.book.specs.declared.Entry.{Entry}
-use Rattle.book.specs.declared.Found.TheVariants as found
-use Rattle.book.specs.declared.summary.Summed.{Summed}
-use Rattle.book.specs.declared.summary.Summed.TheVariants as summed
 use Rattle.book.proofs.Promises.{stands, untouched}
-use Rattle.book.proofs.Walks.{sums, no-summary}
-use Rattle.book_text.specs.Texts.{added_text, usage, Puts}
-use Rattle.book_words.specs.declared.Command.TheVariants.{New, Add, Find, Summary, Usage}
-use Rattle.udsbook.specs.Streams.{Answers}
+use Rattle.book.proofs.Walks.{sums, no_summary}
+use Rattle.book_text.specs.Texts.{added_text, Puts}
 
 never : {P : Type 0} → ◌≡◌ {A = ℕ} 0 1 → P
 never e = absurd (omega arith)
@@ -40,8 +41,9 @@ put_front : (l bs m : List ℕ) (n : ℕ) → Put l 0 bs m n → take n m ≡ bs
 unfolding put
 put_front l bs m n p = ap (take n) p.line ∙ take_at bs (drop (0 + length bs) l) n (omega (arith, p.next))
 
-at_front : {room : Bool} {bs : List ℕ} (l m : List ℕ) (n : ℕ) → room ≡ true → Puts room l bs m n → take n m ≡ bs
-at_front {room = true} {bs = bs} l m n e p = put_front l bs m n p
+pub at_front : {room : Bool} {bs : List ℕ} (l m : List ℕ) (n : option.Option ℕ) → room ≡ true → Puts room l bs m n → take (unwrap_or n 0) m ≡ bs
+at_front {room = true} {bs = bs} l m (Some n) e p = put_front l bs m n p
+at_front {room = true} l m None e p = absurd p
 at_front {room = false} l m n e p = absurd (false≢true e)
 
 -- A part that is whole in the first bytes is that part of all.
@@ -56,26 +58,32 @@ is-a-book : (b log new : List ℕ) → add b log ≡ bookkeeping.gives new → i
 is-a-book b log new e = let k = (came b log new e).book in (what-a-book-is b).1 (logs_in b, k.sound, k.is, k.fits)
 
 -- The summary of a book, where there are counters for it.
-summary-of : (b before after : List ℕ) (r : Summed) → is_book b ≡ true → length before ≡ 4176 → code.Sums b before r after → after ≡ afresh (logs_in b)
+summary-of : (b before after : List ℕ) (r : Result (Unit {0}) BookError) → is_book b ≡ true → length before ≡ 4176 → code.Sums b before r after
+    → after ≡ afresh (logs_in b)
 summary-of b before after r is long p = p.summary ∙ rw (sums b is, eq-eqb (length before) 4176 long)
 
 -- `new`
-pub begun : (b log buffer z said : List ℕ) (r : ℕ) → 20 ≤ length buffer → code.Begins buffer r z → Answers New b log (record { at = 0; out = r; said = 0 }) z said
+pub begun : (buffer z : List ℕ) (r : option.Option ℕ) → 20 ≤ length buffer → code.Begins buffer r z → take (unwrap_or r 0) z ≡ book_of []
 unfolding with
-begun b log buffer z said r room p =
+begun buffer z r room p =
     let fits = le-leb 20 (length buffer) room in
-    let long : r ≡ 20 = p.answer ∙ rw fits in
+    let long : r ≡ Some 20 = p.answer ∙ rw fits in
     let stands : z ≡ book_of [] ++ drop 20 buffer = p.book ∙ rw fits in
-    record { out = ap₂ take long stands; report = refl }
+    ap₂ (λ (k : option.Option ℕ) (l : List ℕ). take (unwrap_or k 0) l) long stands
+
+-- What both streams get, and what they should.
+pub record Both (a b a' b' : List ℕ) : Type 0 where
+  pub out : a ≡ a'
+  pub said : b ≡ b'
 
 -- `add`
-module _ (b log buffer before summary z s text said : List ℕ) (wide : 200 ≤ length text) where
-  pub added : (sum : Summed) (m r : ℕ) (e : Entry) → length before ≡ 4176 → length s ≤ 4176 → code.Sums b before sum summary
-      → code.Adds b log buffer summary (Book m e) z s
+module _ (b log buffer before summary z s : List ℕ) where
+  pub added : (sum : Result (Unit {0}) BookError) (m : ℕ) (r : option.Option ℕ) (e : Entry) (text said : List ℕ) → 200 ≤ length text → length before ≡ 4176
+      → length s ≤ 4176 → code.Sums b before sum summary → code.Adds b log buffer summary (Ok (m, e)) z s
       → Puts (leb 200 (length text) && leb (length s) 4176) text (added_text e.call e.number e.place s) said r
-      → Answers Add b log (record { at = 0; out = m; said = r }) z said
+      → Both (take m z) (take (unwrap_or r 0) said) (Said.add_out b (add b log)) (Said.add_said (added_to b log) (add b log))
   unfolding Said.add_out Said.add_said
-  added sum m r e long few p q t =
+  added sum m r e text said wide long few p q t =
       let k = stands b log buffer summary z s m e q in
       let is = is-a-book b log (take m z) k.is in
       let now : s ≡ afresh (logs_in (take m z)) =
@@ -85,106 +93,86 @@ module _ (b log buffer before summary z s text said : List ℕ) (wide : 200 ≤ 
       let room : (leb 200 (length text) && leb (length s) 4176) ≡ true = rw (le-leb 200 (length text) wide, le-leb (length s) 4176 few) in
       record {
         out = ap (Said.add_out b) (sym k.is);
-        report = at_front text said r room t ∙ ap₂ line k.told now ∙ ap (Said.add_said (added_to b log)) (sym k.is);
+        said = at_front text said r room t ∙ ap₂ line k.told now ∙ ap (Said.add_said (added_to b log)) (sym k.is);
       }
 
-  module _ (n k r : ℕ) (q : code.Adds b log buffer summary (Refused k) z s) (t : Puts (leb 200 (length text)) text (refusal k) said r) where
-    pub refused-25 : k ≡ 25 → Answers Add b log (record { at = 0; out = 0; said = r }) z said
-    unfolding Said.add_out Said.add_said
-    refused-25 e =
-        let u = untouched b log buffer summary z s k q in
-        record {
-          out = sym (ap (Said.add_out b) u.0 ∙ rw (eq-eqb k 25 e));
-          report = at_front text said r (le-leb 200 (length text) wide) t ∙ ap (Said.add_said (added_to b log)) (sym u.0);
-        }
-
-    pub refused : (k ≡ 25 → ⊥) → b ≡ take n buffer → Answers Add b log (record { at = 0; out = n; said = r }) z said
-    unfolding Said.add_out Said.add_said
-    refused e is =
-        let u = untouched b log buffer summary z s k q in
-        record {
-          out = ap (take n) u.1 ∙ sym is ∙ sym (ap (Said.add_out b) u.0 ∙ rw (ne_eqb k 25 e));
-          report = at_front text said r (le-leb 200 (length text) wide) t ∙ ap (Said.add_said (added_to b log)) (sym u.0);
-        }
+  pub refused : (x : Refusal) (n : ℕ) → code.Adds b log buffer summary (Err (Refused x)) z s → b ≡ take n buffer
+      → Both (take (cond (eqb (refusal_number x) 25) 0 n) z) (refusal (refusal_number x)) (Said.add_out b (add b log)) (Said.add_said (added_to b log) (add b log))
+  unfolding Said.add_out Said.add_said
+  refused x n q is =
+      let u = untouched b log buffer summary z s x q in
+      record {
+        out = kept (eqb (refusal_number x) 25) (ap (take n) u.1 ∙ sym is) ∙ ap (Said.add_out b) (sym u.0);
+        said = ap (Said.add_said (added_to b log)) (sym u.0);
+      }
+    where
+      kept : (t : Bool) → take n z ≡ b → take (cond t 0 n) z ≡ cond t [] b
+      kept true e = refl
+      kept false e = e
 
   -- There is always room.
-  pub room-enough : 65536 ≤ length buffer → code.Adds b log buffer summary NoRoom z s → ⊥
+  pub room-enough : 65536 ≤ length buffer → code.Adds b log buffer summary (Err NoRoom) z s → ⊥
   room-enough room q = go (add b log) refl q.answer
     where
-      go : (a : bookkeeping.Answer) → add b log ≡ a → code.no_room ≡ code.answered a (added_to b log) (length buffer) → ⊥
+      go : (a : bookkeeping.Answer) → add b log ≡ a → Err code.no_room ≡ code.answered a (added_to b log) (length buffer) → ⊥
       go (bookkeeping.refused k) is e = never (cc)
       go (bookkeeping.gives new) is e =
           let short = (opened new (adding-gives-a-book b log new is).0).fits in
           let fits : leb (length new) (length buffer) ≡ true = le-leb (length new) (length buffer) (omega (arith, short, room)) in
-          let there : code.no_room ≡ code.book (length new) (added_to b log) = rw fits at e in
+          let there : ◌≡◌ {A = Result (ℕ × bookkeeping.Added) code.Why} (Err code.no_room) (Ok (length new, added_to b log)) = rw fits at e in
           never (cc)
 
 -- `find`
 module _ (book : List ℕ) (n c k : ℕ) where
-  pub found-log : (p : Place) (said : List ℕ) → code.Finds (take n book) c k (found.Log p)
-      → Answers (Find c k) (take n book) [] (record { at = p.at; out = p.len; said = 0 }) book said
+  pub found-log : (p : Place) → code.Finds (take n book) c k (Ok p)
+      → Both (area book p.at p.len) [] (Said.out (bookkeeping.find (take n book) c k)) (Said.said (bookkeeping.find (take n book) c k))
   unfolding Said.out Said.said
-  found-log p said f = record {
-    out = sym (whole_part book n p.at p.len f.place.1) ∙ ap Said.out f.answer;
-    report = ap Said.said f.answer;
-  }
+  found-log p f = record { out = sym (whole_part book n p.at p.len f.place.1) ∙ ap Said.out f.answer; said = ap Said.said f.answer }
 
-  pub not_found : (x r : ℕ) (text said : List ℕ) → 200 ≤ length text → code.Finds (take n book) c k (found.Refused x)
-      → Puts (leb 200 (length text)) text (refusal x) said r
-      → Answers (Find c k) (take n book) [] (record { at = 0; out = 0; said = r }) book said
+  pub not_found : (x : Refusal) → code.Finds (take n book) c k (Err x)
+      → Both [] (refusal (refusal_number x)) (Said.out (bookkeeping.find (take n book) c k)) (Said.said (bookkeeping.find (take n book) c k))
   unfolding Said.out Said.said
-  not_found x r text said wide f t = record {
-    out = ap Said.out f.answer;
-    report = at_front text said r (le-leb 200 (length text) wide) t ∙ ap Said.said f.answer;
-  }
+  not_found x f = record { out = ap Said.out f.answer; said = ap Said.said f.answer }
 
 -- `summary`
 module _ (b before after : List ℕ) (long : length before ≡ 4176) where
-  by-book : (r : Summed) → code.Sums b before r after → (t : Bool) → is_book b ≡ t
-      → (r ≡ cond t summed.Summary (summed.Refused 25)) × (bookkeeping.summary b ≡ cond t (bookkeeping.gives (afresh (logs_in b))) (bookkeeping.refused 25))
+  by-book : (r : Result (Unit {0}) BookError) → code.Sums b before r after → (t : Bool) → is_book b ≡ t
+      → (code.summed_of r ≡ cond t (Ok tt) (Err (code.refused 25)))
+      × (bookkeeping.summary b ≡ cond t (bookkeeping.gives (afresh (logs_in b))) (bookkeeping.refused 25))
   by-book r p true e = (p.answer ∙ rw (sums b e, eq-eqb (length before) 4176 long), sums b e)
-  by-book r p false e = (p.answer ∙ rw (no-summary b e), no-summary b e)
+  by-book r p false e = (p.answer ∙ rw (no_summary b e), no_summary b e)
 
-  pub summed-up : (r : ℕ) (l text said : List ℕ) → 100224 ≤ length l → length after ≤ 4176 → code.Sums b before summed.Summary after
+  pub summed-up : (r : option.Option ℕ) (l text : List ℕ) → 100224 ≤ length l → length after ≤ 4176 → code.Sums b before (Ok tt) after
       → Puts (leb 100224 (length l) && leb (length after) 4176) l (lines_from 0 after) text r
-      → Answers Summary b [] (record { at = 0; out = r; said = 0 }) text said
+      → Both (take (unwrap_or r 0) text) [] (Said.summary_out (bookkeeping.summary b)) (Said.said (bookkeeping.summary b))
   unfolding Said.summary_out Said.said
-  summed-up r l text said wide few p t = go (is_book b) refl
+  summed-up r l text wide few p t = go (is_book b) refl
     where
-      go : (x : Bool) → is_book b ≡ x → Answers Summary b [] (record { at = 0; out = r; said = 0 }) text said
+      go : (x : Bool) → is_book b ≡ x → Both (take (unwrap_or r 0) text) [] (Said.summary_out (bookkeeping.summary b)) (Said.said (bookkeeping.summary b))
       go true e =
-          let same = summary-of b before after summed.Summary e long p in
+          let same = summary-of b before after (Ok tt) e long p in
           let room : (leb 100224 (length l) && leb (length after) 4176) ≡ true = rw (le-leb 100224 (length l) wide, le-leb (length after) 4176 few) in
           record {
             out = at_front l text r room t ∙ ap (lines_from 0) same ∙ ap Said.summary_out (sym (sums b e));
-            report = ap Said.said (sym (sums b e));
+            said = ap Said.said (sym (sums b e));
           }
-      go false e = let z = (by-book summed.Summary p false e).0 in never (cc)
+      go false e = let z = (by-book (Ok tt) p false e).0 in never (cc)
 
-  pub no-sum : (n r : ℕ) (l text said : List ℕ) → 200 ≤ length l → code.Sums b before (summed.Refused n) after
-      → Puts (leb 200 (length l)) l (refusal n) said r
-      → Answers Summary b [] (record { at = 0; out = 0; said = r }) text said
+  pub no-sum : (n : Refusal) → code.Sums b before (Err (Refused n)) after
+      → Both [] (refusal (refusal_number n)) (Said.summary_out (bookkeeping.summary b)) (Said.said (bookkeeping.summary b))
   unfolding Said.summary_out Said.said
-  no-sum n r l text said wide p t = go (is_book b) refl
+  no-sum n p = go (is_book b) refl
     where
-      go : (x : Bool) → is_book b ≡ x → Answers Summary b [] (record { at = 0; out = 0; said = r }) text said
-      go true e = let z = (by-book (summed.Refused n) p true e).0 in never (cc)
+      go : (x : Bool) → is_book b ≡ x → Both [] (refusal (refusal_number n)) (Said.summary_out (bookkeeping.summary b)) (Said.said (bookkeeping.summary b))
+      go true e = let z = (by-book (Err (Refused n)) p true e).0 in never (cc)
       go false e =
-          let z = (by-book (summed.Refused n) p false e).0 in
-          let same : n ≡ 25 = cc in
-          record {
-            out = ap Said.summary_out (sym (no-summary b e));
-            report = at_front l said r (le-leb 200 (length l) wide) t ∙ ap refusal same ∙ ap Said.said (sym (no-summary b e));
-          }
+          let z = (by-book (Err (Refused n)) p false e).0 in
+          let same : refusal_number n ≡ 25 = cc in
+          record { out = ap Said.summary_out (sym (no_summary b e)); said = ap refusal same ∙ ap Said.said (sym (no_summary b e)) }
 
-  pub never-short : code.Sums b before summed.NoRoom after → ⊥
+  pub never-short : code.Sums b before (Err NoRoom) after → ⊥
   never-short p = go (is_book b) refl
     where
       go : (x : Bool) → is_book b ≡ x → ⊥
-      go true e = let z = (by-book summed.NoRoom p true e).0 in never (cc)
-      go false e = let z = (by-book summed.NoRoom p false e).0 in never (cc)
-
--- Wrong usage.
-pub used-wrong : (b log book text said : List ℕ) (r : ℕ) → 200 ≤ length text → Puts (leb 64 (length text)) text usage said r
-    → Answers Usage b log (record { at = 0; out = 0; said = r }) book said
-used-wrong b log book text said r wide t = record { out = refl; report = at_front text said r (le-leb 64 (length text) (omega (arith, wide))) t }
+      go true e = let z = (by-book (Err NoRoom) p true e).0 in never (cc)
+      go false e = let z = (by-book (Err NoRoom) p false e).0 in never (cc)

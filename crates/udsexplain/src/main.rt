@@ -6,7 +6,7 @@ ghost use Rattle.telling.specs.Telling.{story};
 
 use std::io;
 use streams::{read_full, write_full};
-use tell::{LONGEST, Told};
+use tell::LONGEST;
 use wire::part;
 
 // Of all that was read, the first n bytes of the input: how many bytes at the buffer's front are its story. There is always room.
@@ -14,10 +14,7 @@ fn story_of(input: &[u8], n: usize, text: &mut [u8]) -> usize
     requires { 163840 ≤ length text.old }
     ensures { take result text.new ≡ story (take n input.now) }
 {
-    match tell::tell(part(input, 0, n), text) {
-        Told::Story(m) => m,
-        Told::NoRoom => 0,
-    }
+    tell::tell(part(input, 0, n), text).unwrap_or(0)
 }
 
 fn main(rt: HostRuntime) -> io::Result<()> {

@@ -8,18 +8,15 @@ ghost use Rattle.rules.specs.Logs.{line_of};
 use std::io;
 use std::io::{Read, Write};
 use streams::{read_full, write_full};
-use text::{LONGEST, Written};
+use text::LONGEST;
 use wire::part;
 
-// Of all that was read, the first n bytes of the input: how many bytes at the buffer's front are its line. There is always room.
-fn line_of(input: &[u8], n: usize, line: &mut [u8]) -> usize
+// How many bytes at the buffer's front are the line of a log. There is always room.
+fn line_of(log: &[u8], line: &mut [u8]) -> usize
     requires { 8222 ≤ length line.old }
-    ensures { take result line.new ≡ line_of (take n input.now) }
+    ensures { take result line.new ≡ line_of log.now }
 {
-    match log_line::line_of(part(input, 0, n), line) {
-        Written::Line(m) => m,
-        Written::NoRoom => 0,
-    }
+    log_line::line_of(log, line).unwrap_or(0)
 }
 
 // The line of the log that is read goes to the writer.
@@ -31,7 +28,7 @@ fn print_line<R: Read, W: Write>(log: &mut R, line_to: &mut W) -> io::Result<()>
     let mut input = [0u8; 65536];
     let n = read_full(log, &mut input)?;
     let mut line = [0u8; LONGEST];
-    let m = line_of(&input, n, &mut line);
+    let m = line_of(part(&input, 0, n), &mut line);
     write_full(line_to, part(&line, 0, m))
 }
 

@@ -1,15 +1,15 @@
 -- Laws of what is held in a buffer, from an index on.
 use Prim.Native.Nat.{ℕ, ◌+◌, ◌-◌, ◌≤◌, ◌<◌}
 use native.Mathlib.Omega.{arith}
-use mathlib.Core.Bool.{Bool, true, false}
+use mathlib.Core.Bool.{true, false}
 use mathlib.Core.List.{List, [], ◌∷◌, ◌++◌, append-nil}
 use mathlib.Core.Path.{◌≡◌, refl, sym, ap, subst, ◌∙◌}
-use borrow.Author.Tests.{le-leb, eqb-true}
+use borrow.Author.Tests.{eqb-true}
 use borrow.Rule.Slice.PartMut.{post_of, put_mid}
 use lib.Dec.{eqb}
 use lib.ListN.{length, take, drop, length-take, length-drop, length-append}
-use lib.Seq.{length-take-le, take_at, drop_at, drop-drop, take-add, take-append_seam, take-append-le}
-use Rattle.wire.specs.Buffers.{with, Copied}
+use lib.Seq.{length-take-le, take_at, drop_at, drop-drop, take-add, take-append-le}
+use Rattle.std.specs.List.{copy_within}
 use Rattle.log_lines.specs.Batches.{Waits, Batched, Ended}
 use Rattle.log_lines.specs.declared.Batch.{Batch}
 use Rattle.log_lines.specs.declared.Ending.{Ending}
@@ -27,29 +27,14 @@ rest-held from held t input inside some =
     ap (take (held - t)) (sym (drop-drop t from input)) ∙
     sym (ap (λ (n : ℕ). drop t (take n l)) all ∙ ap (drop t) (take-add t (held - t) l) ∙ drop_at (take t l) (take (held - t) (drop t l)) t front)
 
--- What was copied to a buffer's front stands there.
-copied : (buffer source after : List ℕ) {done : Bool} → length source ≤ length buffer → Copied buffer 0 source done after →
-    take (length source) after ≡ source
-unfolding with
-copied buffer source after fits c =
-    let room = le-leb (0 + length source) (length buffer) (omega arith) in
-    ap (take (length source)) (c.buffer ∙ rw room) ∙ take-append_seam source (drop (0 + length source) buffer)
-
--- By way of the spare buffer what is held comes to the front.
-module _ (from held : ℕ) (input spare first spare-after second input-after : List ℕ) {a b : Bool} (inside : from + held ≤ length input)
-    (room : held ≤ length spare)
-    (taken : first ≡ take held (drop from input)) (put : Copied spare 0 first a spare-after) (again : second ≡ take held (drop 0 spare-after))
-    (back : Copied input 0 second b input-after) where
-  long : length first ≡ held
-  long = ap length taken ∙ length-take-le held (drop from input) (omega (arith, length-drop from input))
-
-  same : second ≡ first
-  same = again ∙ ap (λ (n : ℕ). take n spare-after) (sym long) ∙ copied spare first spare-after (omega (arith, long)) put
-
-  pub moved : take held input-after ≡ take held (drop from input)
-  moved =
-      let size : length second ≡ held = ap length same ∙ long in
-      ap (λ (n : ℕ). take n input-after) (sym size) ∙ copied input second input-after (omega (arith, size, inside)) back ∙ same ∙ taken
+-- What is held is copied to the front.
+pub moved : (from held : ℕ) (input : List ℕ) {after : List ℕ} → from + held ≤ length input → after ≡ copy_within input from (from + held) 0 →
+    take held after ≡ take held (drop from input)
+moved from held input {after} inside is =
+    let count : from + held - from ≡ held = omega arith in
+    let size : length (take held (drop from input)) ≡ held = length-take-le held (drop from input) (omega (arith, length-drop from input)) in
+    ap (take held) (is ∙ ap (λ (n : ℕ). take n (drop from input) ++ drop (0 + n) input) count) ∙
+    take_at (take held (drop from input)) (drop (0 + held) input) held size
 
 -- No more is taken than is held.
 pub taken-held : (from held t : ℕ) (input l : List ℕ) → l ≡ take held (drop from input) → t ≤ length l → t ≤ held

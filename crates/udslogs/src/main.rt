@@ -11,11 +11,11 @@ use log_lines::{end, lines};
 use std::io;
 use std::io::{Read, Write};
 use streams::write_full;
-use wire::{copy_into, part};
+use wire::part;
 
 // Where a run is: what is held of the input stands in a buffer from index `from` on, and `left` bytes of it or behind it are of a log that is
 // too long. So many `logs` have their line. `waits`: nothing could be taken of what is held; `ended`: nothing more comes.
-#[derive(Clone, Copy)]
+#[derive(Clone, Copy, Default)]
 struct Run {
     left: usize,
     logs: u64,
@@ -50,28 +50,26 @@ fn print_lines<W: Write, E: Write>(
         from: from + b.taken,
         held: held - b.taken,
         waits: b.taken == 0,
-        ended: run.ended,
+        ..run
     })
 }
 
 // Moves what is held to the buffer's front, and reads what comes behind it, into a room that is not empty.
-fn read_more<R: Read>(run: Run, input: &mut [u8], spare: &mut [u8], file: &mut R) -> io::Result<Run>
-    requires { Inside run input.old × (run.held < length input.old) × (run.held ≤ length spare.old) }
+fn read_more<R: Read>(run: Run, input: &mut [u8], file: &mut R) -> io::Result<Run>
+    requires { Inside run input.old × (run.held < length input.old) }
     ensures { IfOk result (λ next. (p : Read run input.old next input.new) ×
         Consumes (R.remaining file.old) (R.remaining file.new) p.came ×
         (length p.came ≡ 0 → IsAtEnd (R.remaining file.new))) }
 {
     let held = run.held;
-    copy_into(spare, 0, part(input, run.from, held));
-    copy_into(input, 0, part(spare, 0, held));
+    input.copy_within(run.from..run.from + held, 0);
     let n = file.read(&mut input[held..])?;
     Ok(Run {
-        left: run.left,
-        logs: run.logs,
         from: 0,
         held: held + n,
         waits: false,
         ended: n == 0,
+        ..run
     })
 }
 
@@ -108,24 +106,14 @@ fn print_file<R: Read, W: Write, E: Write>(
 ) -> io::Result<()> {
     // twice the longest log with its length: one that is not whole yet is moved at most once
     let mut input = [0u8; 131078];
-    let mut spare = [0u8; 131078];
     let mut out = [0u8; 65536];
     let mut said = [0u8; 4096];
-    let mut run = Run {
-        left: 0,
-        logs: 0,
-        from: 0,
-        held: 0,
-        waits: false,
-        ended: false,
-    };
+    let mut run = Run::default();
     // as many turns as no input takes: a turn takes a log, or reads
-    let mut turns = u64::MAX;
-    while turns > 0 {
-        turns -= 1;
+    for _ in 0..u64::MAX {
         run = print_lines(run, &input, &mut out, &mut said, lines_to, errors_to)?;
         if run.waits {
-            run = read_more(run, &mut input, &mut spare, file)?;
+            run = read_more(run, &mut input, file)?;
             if run.ended {
                 return print_end(run, &input, &mut out, &mut said, lines_to, errors_to);
             }

@@ -14,10 +14,7 @@ use Rattle.mending.proofs.OnlyCut.{only-cut}
 use Rattle.udsmend.specs.Streams.{Holds}
 use Rattle.udsmend.specs.declared.Streams.{Streams}
 
-module _ (input : List ℕ) (n : ℕ) (r : Streams) (out said : List ℕ) (p : Holds input n r out said) where
-  abbrev read : List ℕ
-  read = take n input
-
+module _ (read : List ℕ) (r : Streams) (out said : List ℕ) (p : Holds read r out said) where
   abbrev wrote : List ℕ
   wrote = take r.out out
 
@@ -36,9 +33,9 @@ module _ (input : List ℕ) (n : ℕ) (r : Streams) (out said : List ℕ) (p : H
 
   -- "mending twice equals mending once": what was written, read again.
   pub twice : (log : List ℕ) (told : Report) → every is_byte read ≡ true → mend read ≡ mended log told →
-      (again : List ℕ) (m : ℕ) (s : Streams) (out' said' : List ℕ) → take m again ≡ wrote → Holds again m s out' said' → take s.out out' ≡ wrote
+      (again : List ℕ) (s : Streams) (out' said' : List ℕ) → again ≡ wrote → Holds again s out' said' → take s.out out' ≡ wrote
   unfolding put
-  twice log told bytes e again m s out' said' same q =
+  twice log told bytes e again s out' said' same q =
       let first = the-log log told e in
       let second = mending.twice read log told bytes e in
       q.log ∙ ap (λ (l : List ℕ). put (mend l)) (same ∙ first) ∙ ap put second ∙ sym first

@@ -4,7 +4,7 @@ use native.Mathlib.Omega.{arith}
 use mathlib.Core.Bool.{Bool}
 use mathlib.Core.List.{List, [], ◌∷◌, ◌++◌}
 use mathlib.Core.Path.{◌≡◌, refl, ◌∙◌, ap}
-use borrow.Author.Tests.{le-leb, eq-eqb, ne_eqb}
+use borrow.Author.Tests.{le-leb, eq-eqb}
 use lib.ListN.{length, length-append, length-drop}
 use lib.Seq.{length-take-le}
 use Rattle.rules.specs.Lines.{decimal}
@@ -65,11 +65,3 @@ module _ (l m o word between : List ℕ) (at first second a b : ℕ) (small : fi
 -- A field that was not rewritten says nothing.
 pub same-field : (l name : List ℕ) (at old new : ℕ) → old ≡ new → Put l at (field_text name old new) l at
 same-field l name at old new e = rw (eq-eqb old new e) (none l at)
-
-pub new-field : (l m name : List ℕ) (at old new n : ℕ) → (old ≡ new → ⊥) → Put l at (counted name old ++ counted [] new ++ (10 ∷ [])) m n → Put l at (field_text name old new) m n
-new-field l m name at old new n d p = rw (ne_eqb old new d) p
-
--- A line more: where it ends at most, and the buffer stays as long.
-pub further : (l m bs : List ℕ) (at n most size all : ℕ) → length l ≡ all → 200 ≤ all → at ≤ most → most + size + 13 ≤ 200 → n ≤ at + size + 13 → Put l at bs m n
-    → (n ≤ most + size + 13) × (length m ≡ all)
-further l m bs at n most size all long room before fits end p = (omega arith, put-long l m bs at n (omega arith) p ∙ long)

@@ -9,7 +9,7 @@ use Rattle.udsmend.specs.declared.Streams.{Streams}
 abbrev pub field_text : List ℕ → ℕ → ℕ → List ℕ
 field_text name old new = cond (eqb old new) [] (counted name old ++ counted [] new ++ (10 ∷ []))
 
--- Of the first n bytes of the input: the mended log, and what is said of it.
-pub record Holds (input : List ℕ) (n : ℕ) (r : Streams) (out said : List ℕ) : Type 0 where
-  pub log : take r.out out ≡ Said.put (mend (take n input))
-  pub report : take r.said said ≡ Said.said (mend (take n input))
+-- Of all that was read: the mended log, and what is said of it.
+pub record Holds (read : List ℕ) (r : Streams) (out said : List ℕ) : Type 0 where
+  pub log : take r.out out ≡ Said.put (mend read)
+  pub report : take r.said said ≡ Said.said (mend read)

@@ -8,7 +8,7 @@ ghost use Rattle.mending.specs.Mend.{mend};
 ghost use Rattle.mending.specs.Said.{put, said};
 ghost use Rattle.udsmend.specs.Streams.{Holds};
 
-use mend::{Mended, mend};
+use mend::{MendError, mend};
 use report::{LONGEST, put_refusal, put_report};
 use std::io;
 use std::io::{Read, Write};
@@ -24,21 +24,21 @@ struct Streams {
     said: usize,
 }
 
-// Of all that was read, the first n bytes of the input. There is always room.
-fn mend_input(input: &[u8], n: usize, out: &mut [u8], said: &mut [u8]) -> Streams
+// Of all that was read. There is always room.
+fn mend_input(read: &[u8], out: &mut [u8], said: &mut [u8]) -> Streams
     requires { (65535 ≤ length out.old) × (200 ≤ length said.old) }
-    ensures { Holds input.now n result out.new said.new }
+    ensures { Holds read.now result out.new said.new }
 {
-    match mend(part(input, 0, n), out) {
-        Mended::Log(m, report) => Streams {
-            out: m,
+    match mend(read, out) {
+        Ok((n, report)) => Streams {
+            out: n,
             said: put_report(said, report),
         },
-        Mended::Refused(number) => Streams {
+        Err(MendError::Refused(refusal)) => Streams {
             out: 0,
-            said: put_refusal(said, number),
+            said: put_refusal(said, refusal),
         },
-        Mended::NoRoom => Streams { out: 0, said: 0 },
+        Err(MendError::NoRoom) => unreachable!(),
     }
 }
 
@@ -56,7 +56,7 @@ fn mend_log<R: Read, W: Write, E: Write>(
     let n = read_full(damaged, &mut input)?;
     let mut out = [0u8; 65536];
     let mut said = [0u8; LONGEST];
-    let ends = mend_input(&input, n, &mut out, &mut said);
+    let ends = mend_input(&input[..n], &mut out, &mut said);
     write_full(mended_to, part(&out, 0, ends.out))?;
     write_full(report_to, part(&said, 0, ends.said))
 }

@@ -3,12 +3,14 @@ ghost use Rattle.std.specs.Prelude.{◌+◌, ◌≤◌, [], ◌∷◌, ◌++◌,
 ghost use Rattle.mending.specs.Mend.{refused};
 ghost use Rattle.mending.specs.Said.{reported, said};
 ghost use Rattle.mend.specs.Answered.{report_of};
+ghost use Rattle.wire.specs.Refusing.{refusal_number};
 ghost use Rattle.text.specs.Written.{Put, counted};
 ghost use Rattle.udsmend.specs.Streams.{field_text};
 
 use mend::Report;
 use text::put_counted;
 use wire::copy_into;
+use wire::refusal::Refusal;
 
 // So many bytes have room for every report: of the first line 26, and of each of six fields 29, its name's 16 letters, two numbers of five
 // digits, two spaces and the newline.
@@ -66,11 +68,11 @@ pub(crate) fn put_report(text: &mut [u8], report: Report) -> usize
     put_field(text, f, b"total", old.total, new.total)
 }
 
-pub(crate) fn put_refusal(text: &mut [u8], number: u8) -> usize
+pub(crate) fn put_refusal(text: &mut [u8], refusal: Refusal) -> usize
     requires { 200 ≤ length text.old }
-    ensures { Put text.old 0 (said (refused number)) text.new result }
+    ensures { Put text.old 0 (said (refused (refusal_number refusal))) text.new result }
 {
-    let n = put_counted(text, 0, b"refused", number as u64);
+    let n = put_counted(text, 0, b"refused", u8::from(refusal) as u64);
     copy_into(text, n, b"\n");
     n + 1
 }

@@ -3,3 +3,5 @@ pub mod Ends
 pub mod Buffers
 pub mod Numbers
 pub mod Methods
+pub mod Refusals
+pub mod BigEndian

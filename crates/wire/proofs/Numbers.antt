@@ -11,7 +11,8 @@ use lib.ListN.{length, get_or, take, drop, set, replicate, take-append-drop}
 use lib.Seq.{take-suc, append_snoc, set_at, length-take-le}
 use Rattle.rules.specs.Bytes.{bytes_of}
 use Rattle.rules.specs.Refusals.{widest}
-use Rattle.wire.specs.Memory.{memory_bytes, refused}
+use Rattle.std.specs.Prelude.{Ok, Err}
+use Rattle.wire.specs.Memory.{memory_bytes}
 
 pub widest-most : (wide : Bool) → widest wide ≤ 15
 widest-most true = omega arith
@@ -51,11 +52,11 @@ rest-less v j = rw (add-one j, pow-suc 256 j, div-div-eq-div-mul)
 -- What it has written in the end, by whether all of the value is.
 module _ (w v : ℕ) (wide : Bool) (low : 1 ≤ w) (high : w ≤ widest wide) where
   pub written : (bytes : List ℕ) → v / 256 ^ w ≤ 0 → bytes ≡ take (w - w) (replicate 15 0) ++ (bytes_of w v ++ drop w (replicate 15 0))
-      → record { refusal = 0; len = w; bytes = bytes } ≡ memory_bytes v w wide
+      → Ok (record { len = w; bytes = bytes }) ≡ memory_bytes v w wide
   unfolding memory_bytes
   written bytes h e =
       rw (le-leb 1 w low, le-leb w (widest wide) high, lt-ltb v (256 ^ w) (small w v h), e, sub_self, drop-replicate w 15 0)
 
-  pub too-narrow : 0 < v / 256 ^ w → refused 7 ≡ memory_bytes v w wide
+  pub too-narrow : 0 < v / 256 ^ w → Err 7 ≡ memory_bytes v w wide
   unfolding memory_bytes
   too-narrow h = rw (le-leb 1 w low, le-leb w (widest wide) high, le-ltb v (256 ^ w) (large w v h))

@@ -2,3 +2,4 @@
 pub mod Buffers
 pub mod Memory
 pub mod Methods
+pub mod Refusing

@@ -5,23 +5,15 @@ ghost use Rattle.std.specs.Prelude.{◌≡◌, ◌<◌, get_or, take, drop};
 ghost use Rattle.rules.specs.Bytes.{u16_at, u32_at};
 ghost use Rattle.rules.specs.Refusals.{widest};
 ghost use Rattle.wire.specs.Buffers.{Copied};
-ghost use Rattle.wire.specs.Memory.{memory_bytes, refused};
+ghost use Rattle.wire.specs.Memory.{memory_bytes};
+ghost use Rattle.wire.specs.Refusing.{numbered};
+
+use refusal::Refusal;
 
 pub mod constants;
 pub mod error;
+pub mod refusal;
 pub mod types;
-
-fn wide(b: u8) -> u16
-    ensures { (result ≡ b) × (result < 256) }
-{
-    b as u16
-}
-
-fn wide32(n: u16) -> u32
-    ensures { (result ≡ n) × (result < 65536) }
-{
-    n as u32
-}
 
 // The byte at an index, 0 past the end.
 pub fn byte_at(bytes: &[u8], at: usize) -> u8
@@ -35,7 +27,7 @@ pub fn u16_at(bytes: &[u8], at: usize) -> u16
     ensures { result ≡ u16_at bytes.now at }
 {
     if at < bytes.len() {
-        wide(byte_at(bytes, at)) * 256 + wide(byte_at(bytes, at + 1))
+        byte_at(bytes, at) as u16 * 256 + byte_at(bytes, at + 1) as u16
     } else {
         0
     }
@@ -48,11 +40,11 @@ pub fn u32_at(bytes: &[u8], at: usize) -> u32
     if at >= bytes.len() {
         return 0;
     }
-    let high = wide32(u16_at(bytes, at)) * 65536;
+    let high = u16_at(bytes, at) as u32 * 65536;
     if at + 1 >= bytes.len() {
         return high;
     }
-    high + wide32(u16_at(bytes, at + 2))
+    high + u16_at(bytes, at + 2) as u32
 }
 
 // The `len` bytes from index `at` on, or as many of them as there are.
@@ -79,31 +71,18 @@ pub fn copy_into(buffer: &mut [u8], at: usize, source: &[u8]) -> bool
     if source.len() > buffer.len() - at {
         return false;
     }
-    let mut i = 0;
-    while i < source.len() {
+    // no `copy_from_slice`: the pieces of a request are short, and a call of memcpy for each costs more than the loop
+    for i in 0..source.len() {
         buffer[at + i] = source[i];
-        i += 1;
     }
     true
 }
 
-// A number as so many bytes, which stand at the front; behind them are zeros.
+// A number as so many bytes, which stand at the front; behind them are zeros. An array with a length, since there is no heap.
 #[derive(Clone, Copy)]
 pub struct MemoryBytes {
-    // 0 where there is none
-    pub refusal: u8,
     pub len: usize,
     pub bytes: [u8; 15],
-}
-
-fn refusal(number: u8) -> MemoryBytes
-    ensures { result ≡ refused number }
-{
-    MemoryBytes {
-        refusal: number,
-        len: 0,
-        bytes: [0; 15],
-    }
 }
 
 // The largest width, by the wide setting.
@@ -115,29 +94,23 @@ fn widest(wide: bool) -> usize
 
 // "sent high byte first", and "padded with zeros on the left"; refusal 6 for a width outside 1..8, or 1..15 under the wide setting, 7 for
 // a value that needs more bytes.
-pub fn memory_bytes(value: u64, width: usize, wide: bool) -> MemoryBytes
-    ensures { result ≡ memory_bytes value width wide }
+pub fn memory_bytes(value: u64, width: usize, wide: bool) -> Result<MemoryBytes, Refusal>
+    ensures { numbered result ≡ memory_bytes value width wide }
 {
     if width < 1 {
-        return refusal(6);
+        return Err(Refusal::Width);
     }
     if width > widest(wide) {
-        return refusal(6);
+        return Err(Refusal::Width);
     }
     let mut bytes = [0u8; 15];
     let mut rest = value;
-    let mut written = 0;
-    while written < width {
+    for written in 0..width {
         bytes[width - 1 - written] = (rest % 256) as u8;
         rest = rest / 256;
-        written += 1;
     }
     if rest > 0 {
-        return refusal(7);
+        return Err(Refusal::ValueTooWide);
     }
-    MemoryBytes {
-        refusal: 0,
-        len: width,
-        bytes,
-    }
+    Ok(MemoryBytes { len: width, bytes })
 }

@@ -1,6 +1,9 @@
-// "`CompressionMethod` and `EncryptionMethod` remain two separate nibble types", joined only in the data format byte.
+// "`CompressionMethod` and `EncryptionMethod` remain two separate nibble types", joined only in the data format byte; so they are no one generic type.
 ghost use Rattle.std.specs.Prelude.{◌≡◌};
 ghost use Rattle.wire.specs.Methods.{compression, encryption, data_format};
+ghost use Rattle.wire.specs.Refusing.{numbered};
+
+use crate::refusal::Refusal;
 
 // Download/upload compression method, the high nibble of the data format byte. Zero means no compression.
 #[derive(Clone, Copy)]
@@ -10,28 +13,16 @@ pub struct CompressionMethod(pub u8);
 #[derive(Clone, Copy)]
 pub struct EncryptionMethod(pub u8);
 
-#[derive(Clone, Copy)]
-pub enum Compression {
-    Method(CompressionMethod),
-    Refused(u8),
-}
-
-#[derive(Clone, Copy)]
-pub enum Encryption {
-    Method(EncryptionMethod),
-    Refused(u8),
-}
-
 impl CompressionMethod {
     pub const NONE: CompressionMethod = CompressionMethod(0);
 
-    pub fn new(value: u8) -> Compression
-        ensures { result ≡ compression value }
+    pub fn new(value: u8) -> Result<CompressionMethod, Refusal>
+        ensures { numbered result ≡ compression value }
     {
         if value <= 15 {
-            Compression::Method(CompressionMethod(value))
+            Ok(CompressionMethod(value))
         } else {
-            Compression::Refused(4)
+            Err(Refusal::Compression)
         }
     }
 
@@ -45,13 +36,13 @@ impl CompressionMethod {
 impl EncryptionMethod {
     pub const NONE: EncryptionMethod = EncryptionMethod(0);
 
-    pub fn new(value: u8) -> Encryption
-        ensures { result ≡ encryption value }
+    pub fn new(value: u8) -> Result<EncryptionMethod, Refusal>
+        ensures { numbered result ≡ encryption value }
     {
         if value <= 15 {
-            Encryption::Method(EncryptionMethod(value))
+            Ok(EncryptionMethod(value))
         } else {
-            Encryption::Refused(5)
+            Err(Refusal::Encryption)
         }
     }
 

@@ -1,27 +1,13 @@
 -- `bench_line::space_at` meets its contract.
-use native.Mathlib.Omega.{arith}
-use Rattle.bench_line.proofs.Reading.{space-here, no-space-yet, no-space}
+use Rattle.std.proofs.Common.{rules, tests, ℕ, refl}
+use Rattle.std.proofs.lemmas.Iterator.{YieldsList-from_slice}
+use Rattle.std.proofs.lemmas.Iterator.Search.{position_from_yields_List}
+use lib.Dec.{eqb}
+use Rattle.bench_line.proofs.Reading.{first_space, space-inside}
 use Rattle.bench_line.proofs.space_at.Goals as goal
 
-pub loop-i-init : goal.loop-i-init
-loop-i-init c = (omega arith, omega arith)
-
-pub bounds-line-i : goal.bounds-line-i
-bounds-line-i c = omega arith
-
-pub returns-then-line-i-eq32 : goal.returns-then-line-i-eq32
-returns-then-line-i-eq32 c =
-    space-here c.args.line.now c.loop-i.i c.loop-i-test.true c.if-line-i-eq32.true c.loop-i.invariant.1
-
-pub overflow_add-i : goal.overflow_add-i
-overflow_add-i c = omega arith
-
-pub loop-i-smaller : goal.loop-i-smaller
-loop-i-smaller c = omega arith
-
-pub loop-i-preserved : goal.loop-i-preserved
-loop-i-preserved c =
-    (omega arith, no-space-yet c.args.line.now c.loop-i.i c.loop-i-test.true c.if-line-i-eq32.false c.loop-i.invariant.1)
-
 pub returns : goal.returns
-returns c = no-space c.args.line.now c.loop-i.i c.loop-i-test.false c.loop-i.invariant.1
+returns c =
+    let l = c.args.line.now in
+    let found = position_from_yields_List (λ (b : ℕ). eqb b 32) _ _ c.position.result c.position.ensures.ran (YieldsList-from_slice l c.iter.ensures.rest) (λ x b q k. search (rules, tests)) in
+    rw (c.unwrap_or.ensures, found, first_space l) (refl, space-inside l)

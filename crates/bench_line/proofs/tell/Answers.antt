@@ -1,39 +1,15 @@
 -- `bench_line::tell` meets its contract.
-use Prim.Native.Nat.{ℕ, ◌+◌, ◌≤◌}
-use native.Mathlib.Omega.{arith}
-use mathlib.Core.List.{List}
-use mathlib.Core.Path.{ap}
-use lib.ListN.{length, drop, length-take}
+use Rattle.std.proofs.Common.{ℕ, List, [], ◌∷◌, length, drop, length-take, ap, arith}
+use Rattle.rules.specs.Lines.{hex}
 use Rattle.text.proofs.Numerals.{hex-length}
-use Rattle.text.proofs.Writing.{then}
-use Rattle.bench_line.proofs.Reading.{copied}
+use Rattle.text.proofs.Writing.{then, was-put}
 use Rattle.bench_line.proofs.tell.Goals as goal
 
-pub put_hex-m-requires : goal.put_hex-m-requires
-put_hex-m-requires c =
+pub returns-in-Ok-Some : goal.returns-in-Ok-Some
+returns-in-Ok-Some c =
     let front = ap (λ (k : List ℕ). length k) c.part.ensures in
-    let Some-of = length-take c.in-Replied.n (drop 0 c.args.buffer.now) in
-    omega (arith, front, Some-of, c.requires)
-
-pub overflow_add-result : goal.overflow_add-result
-overflow_add-result c =
-    let front = ap (λ (k : List ℕ). length k) c.part.ensures in
-    let Some-of = length-take c.in-Replied.n (drop 0 c.args.buffer.now) in
-    omega (arith, front, Some-of, hex-length c.part.result.now, c.put_hex-m.ensures.next, c.requires)
-
-pub returns-in-Replied : goal.returns-in-Replied
-returns-in-Replied c =
-    let written = hex-length c.part.result.now in
-    let front = ap (λ (k : List ℕ). length k) c.part.ensures in
-    let Some-of = length-take c.in-Replied.n (drop 0 c.args.buffer.now) in
-    let room : c.put_hex-m.result + 1 ≤ length c.put_hex-m.new.line = omega (arith, front, Some-of, written, c.put_hex-m.ensures.next, c.put_hex-m.auto.line, c.requires) in
-    let both = then (omega (arith, front, Some-of, written, c.put_hex-m.ensures.next, c.requires)) c.put_hex-m.ensures (copied c.copy_into.ensures room) in
-    rw c.in-Replied.is (rw c.part.ensures at both)
-
-pub returns-in-Silent : goal.returns-in-Silent
-returns-in-Silent c =
-    rw c.in-Silent.is c.put_words.ensures
-
-pub returns-in-Refused : goal.returns-in-Refused
-returns-in-Refused c =
-    rw c.in-Refused.is c.put_words-in-Refused.ensures
+    let few = length-take c.in-Ok-Some.n (drop 0 c.args.buffer.now) in
+    let digits = hex-length c.part.result.now in
+    let put = was-put (hex c.part.result.now) c.args.line.now 0 (omega (arith, front, few, digits)) c.append_hex-m.ensures in
+    let both = then (omega arith) put (was-put (10 ∷ []) c.append_hex-m.new.line c.append_hex-m.result (omega (arith, c.append_hex-m.auto.line, put.next, front, few, digits)) c.append.ensures) in
+    rw (c.in-Ok-Some.is, rw c.in-Ok-Some.is at c.in-Ok-Some.field-0-is) (rw c.part.ensures at both)

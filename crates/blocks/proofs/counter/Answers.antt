@@ -1,23 +1,25 @@
 -- `blocks::counter` meets its contract.
 use native.Mathlib.Nat.{mod-add-mod}
-use Rattle.std.proofs.Common.{sym, ap, ◌∙◌, arith}
-use Rattle.blocks.specs.declared.Cut.TheVariants.{Counter}
+use Rattle.std.proofs.Common.{length, sym, ap, ◌∙◌, arith}
+use Rattle.std.specs.Prelude.{Ok}
+use borrow.Author.Tests.{eqb-true, eqb-false}
 use Rattle.blocks.proofs.Laws.{accepts, refuses-length, refuses-number}
 use Rattle.blocks.proofs.Steps.{within, beyond}
+use Rattle.blocks.proofs.counter.Goals.{then-is_empty-via-then-is_empty, then-is_empty-via-else-is_empty+then-k-data}
 use Rattle.blocks.proofs.counter.Goals as goal
 
 pub returns-then-n-lt3 : goal.returns-then-n-lt3
 returns-then-n-lt3 c = sym (refuses-length _ _ _ (omega arith))
 
-pub returns-then-data-eq0 : goal.returns-then-data-eq0
-returns-then-data-eq0 c = sym (refuses-number _ _ _ (omega arith) (omega arith))
-
-pub returns-then-k-data : goal.returns-then-k-data
-returns-then-k-data c = sym (refuses-number _ _ _ (omega arith) (beyond _ _ _ (omega arith) c.if-k-data.true))
+pub returns-then-is_empty : goal.returns-then-is_empty
+returns-then-is_empty c =
+    elim c.then-is_empty.branch [
+      | then-is_empty-via-then-is_empty w ↦ let none = eqb-true (length c.args.data.now) 0 (sym w.if-is_empty.ensures) in sym (refuses-number _ _ _ (omega arith) (omega arith))
+      | then-is_empty-via-else-is_empty+then-k-data w ↦ sym (refuses-number _ _ _ (omega arith) (beyond _ _ _ (omega arith) w.if-k-data.true))
+    ]
 
 pub returns : goal.returns
 returns c =
-    let k = c.args.k in
-    let sent = c.wrapping_add_u8.ensures.value ∙ mod-add-mod k 256 1 in
+    let some = eqb-false (length c.args.data.now) 0 (sym c.if-is_empty.ensures) in
     let begins = within _ _ _ (omega arith) (omega arith) c.if-k-data.false in
-    ap Counter sent ∙ sym (accepts _ _ _ (omega arith) begins)
+    ap Ok (mod-add-mod c.args.k 256 1) ∙ sym (accepts _ _ _ (omega arith) begins)

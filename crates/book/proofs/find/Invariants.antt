@@ -1,18 +1,17 @@
--- `find` meets its contract: what is sought among the logs that are left is what was sought among all.
+-- `find` meets its contract: what is sought among the logs that are left is what was sought among all, and they are what is left of the book.
 use Rattle.book.proofs.Walks.{nth}
-use Rattle.book_layout.proofs.Walks as walks
+use Rattle.book_layout.specs.Left.{left}
 use Rattle.book.specs.Answered.{stands_at}
 use Rattle.bookkeeping.specs.Book as bookkeeping
-use Rattle.bookkeeping.specs.Layout.{start, logs_in}
+use Rattle.bookkeeping.specs.Layout.{joined, start, logs_in}
 use Rattle.rules.specs.Bytes.{u16_at}
+use lib.ListN.{length, drop}
 use mathlib.Core.Path.{◌≡◌}
-use Prim.Native.Nat.{◌+◌, ◌-◌, ◌*◌, ◌≤◌}
+use Prim.Native.Nat.{◌+◌}
 use Rattle.book.proofs.find.Given as goal
 
-abbrev pub invariant-loop-i : goal.invariant-loop-i
-invariant-loop-i l =
-    (l.i ≤ l.count) × (l.at ≤ 524308 + l.i * 65535) × (nth l.call l.left (walks.left l.book l.count l.i l.at) ≡ bookkeeping.find l.book l.call l.k)
-    × (stands_at l.call l.left l.at (walks.left l.book l.count l.i l.at) ≡ stands_at l.call l.k (start (u16_at l.book 4)) (logs_in l.book))
-
-abbrev pub decreases-loop-i : goal.decreases-loop-i
-decreases-loop-i l = l.count - l.i
+abbrev pub invariant-loop-log : goal.invariant-loop-log
+invariant-loop-log l =
+    (l.at + length (joined (left l.log-iterator)) ≡ length l.book) × (joined (left l.log-iterator) ≡ drop l.at l.book)
+    × (nth l.call l.left (left l.log-iterator) ≡ bookkeeping.find l.book l.call l.k)
+    × (stands_at l.call l.left l.at (left l.log-iterator) ≡ stands_at l.call l.k (start (u16_at l.book 4)) (logs_in l.book))

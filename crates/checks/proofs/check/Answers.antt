@@ -2,14 +2,14 @@
 use Rattle.checks.proofs.Answering.{check-failed, check-passed}
 use Rattle.checks.proofs.check.Goals as goal
 
-pub returns-in-Failed : goal.returns-in-Failed
-returns-in-Failed c =
+pub returns-in-Err : goal.returns-in-Err
+returns-in-Err c =
     let x = c.args in
     check-failed x.strict x.call x.address.now x.size.now x.replies.now x.place _ c.part.ensures _
-    c.verdict.ensures _ c.in-Failed.is
+    c.verdict.ensures _ c.in-Err.is
 
-pub returns-in-Passed : goal.returns-in-Passed
-returns-in-Passed c =
+pub returns-in-Ok : goal.returns-in-Ok
+returns-in-Ok c =
     let x = c.args in
     check-passed x.strict x.call x.address.now x.size.now x.replies.now x.place _ c.part.ensures _
-    c.verdict.ensures c.in-Passed.is _ c.handed.ensures
+    c.verdict.ensures c.in-Ok.is _ c.handed.ensures

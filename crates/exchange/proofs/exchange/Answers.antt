@@ -9,9 +9,6 @@ pub returns-then-not-within_limits : goal.returns-then-not-within_limits
 unfolding guarded
 returns-then-not-within_limits c = record { means = rw (sym c.within_limits.ensures ∙ not-true _ c.if-not-within_limits.true-raw); outcome = tt; reply = omega arith }
 
-pub settle-requires : goal.settle-requires
-settle-requires c = sym c.within_limits.ensures ∙ not-false _ c.if-not-within_limits.false-raw
-
 pub returns : goal.returns
 unfolding guarded
 returns c = rw (sym c.within_limits.ensures ∙ not-false _ c.if-not-within_limits.false-raw) c.settle.ensures

@@ -1,19 +1,18 @@
 -- `imports::framed` meets its contract.
+use mathlib.Core.Bool.{◌||◌}
+use mathlib.Core.Path.{◌≡◌}
 use Rattle.imports.proofs.Stepping.{frame-heard}
-use Rattle.imports.proofs.Noting.{inside-after}
-use mathlib.Core.Path.{refl}
 use Rattle.imports.proofs.framed.Goals as goal
-
-pub note_given-requires : goal.note_given-requires
-note_given-requires c =
-    inside-after c.note_drop-noted.ensures
+use Rattle.imports.proofs.framed.Goals.{then-asks, else-asks}
 
 pub returns : goal.returns
-returns c = (
-  frame-heard c.args.i c.args.time c.args.id c.args.ask c.args.answer c.next-line.result
-      c.args.frame.now c.args.asked.now c.args.answered.now c.args.out.now c.args.log.now
-      c.log_given.new.log _ _ c.either.result
-      c.next-line.ensures c.only.ensures c.only-2.ensures c.feed-asks.ensures c.feed-answers.ensures
-      c.either.ensures c.log_given.ensures c.note_drop-noted.ensures c.note_given.ensures,
-  refl,
-)
+returns c =
+    let x = c.args in
+    let drops : c.if-asks.note_drop ≡ (c.feed-asks.result.drops || c.feed-answers.result.drops) =
+    elim c.if-asks.branch [
+      | then-asks w ↦ rw (w.note_drop-is, w.if-asks.true)
+      | else-asks w ↦ rw (w.note_drop-is, w.if-asks.false)
+    ] in
+    frame-heard x.i x.lent.now x.time x.id x.ids.ask x.ids.answer c.next-line.result x.frame.now x.out.now c.log_given.new.log _ _ c.if-asks.note_drop
+    c.next-line.ensures c.only.ensures c.only-2.ensures c.feed-asks.ensures c.feed-answers.ensures c.given-question.ensures c.given-response.ensures
+    drops c.log_given.ensures c.note_drop-noted.ensures c.note_given.ensures

@@ -1,14 +1,16 @@
 -- `imports::note_reply` meets its contract.
-use Rattle.imports.proofs.Noting.{too_much, reply-told}
-use mathlib.Core.Path.{refl}
+use Prim.Native.Nat.{◌+◌}
+use mathlib.Core.Path.{◌∙◌, sym}
+use lib.ListN.{length}
+use Rattle.rules.specs.Lines.{ascii}
+use Rattle.text.specs.Written.{item}
+use Rattle.imports.proofs.Noting.{told_line}
 use Rattle.imports.proofs.note_reply.Goals as goal
-
-pub returns-then-not-fits : goal.returns-then-not-fits
-returns-then-not-fits c =
-    too_much c.args.t c.args.out.now c.requires c.args.ms c.args.message.now c.fits.ensures
-    c.if-not-fits.true
 
 pub returns : goal.returns
 returns c =
-    reply-told c.args.t c.args.out.now c.requires c.args.ms c.args.message.now c.fits.ensures
-    c.if-not-fits.false refl refl c.put_item.ensures
+    let x = c.args in
+    let t = x.t in
+    rw (sym c.fits.ensures ∙ c.if-not-fits.false)
+    (told_line x.out.now c.put_item.new.line (item (ascii "reply") x.ms x.message.now) t.size c.put_item.result c.requires c.put_item.ensures
+    t.start (t.events + 1) (t.bytes + length x.message.now) t.drops t.over)

@@ -2,8 +2,5 @@
 use Rattle.line_door.proofs.Lines.{lined}
 use Rattle.line_door.proofs.bintrochis_door_line.Goals as goal
 
-pub returns-in-Line : goal.returns-in-Line
-returns-in-Line c = lined c.in-Line.is c.line_of.ensures
-
-pub returns-in-NoRoom : goal.returns-in-NoRoom
-returns-in-NoRoom c = lined c.in-NoRoom.is c.line_of.ensures
+pub returns : goal.returns
+returns c = rw c.unwrap_or.ensures (lined c.line_of.ensures)

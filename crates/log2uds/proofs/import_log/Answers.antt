@@ -5,7 +5,7 @@ use Rattle.log2uds.proofs.import_log.Goals as goal
 
 pub returns : goal.returns
 returns g c =
-    log-written c.args.ask c.args.answer c.args.call.now c.in_ok-imported.imported.ended (Consumes _ _) c.requires.0 c.in_ok-imported.ensures.0
-    c.in_ok-imported.ensures.1
-    c.put_capture-ends.ensures.0
-    c.put_capture-ends.ensures.1
+    log-written c.args.ids.ask c.args.ids.answer c.args.call.now c.in_ok-whole.whole.ended (Consumes _ _) c.requires.0 c.in_ok-whole.ensures.0
+    c.in_ok-whole.ensures.1
+    c.put_capture.ensures.0
+    c.put_capture.ensures.1

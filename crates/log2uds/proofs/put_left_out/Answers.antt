@@ -1,17 +1,9 @@
 -- `log2uds::put_left_out` meets its contract.
 use native.Mathlib.Omega.{arith}
-use mathlib.Core.List.{append-nil}
-use mathlib.Core.Path.{sym}
-use lib.ListN.{take}
-use borrow.Author.Tests.{eq-eqb, ne_eqb}
+use borrow.Author.Tests.{ne_eqb}
 use Rattle.rules.specs.Lines.{ascii}
 use Rattle.log2uds.proofs.Words.{told-behind}
 use Rattle.log2uds.proofs.put_left_out.Goals as goal
-
-pub returns-then-left-eq0 : goal.returns-then-left-eq0
-returns-then-left-eq0 c =
-    let x = c.args in
-    rw (eq-eqb x.left 0 c.if-left-eq0.true) (sym (append-nil (take x.at x.out.now)))
 
 pub returns : goal.returns
 returns c =

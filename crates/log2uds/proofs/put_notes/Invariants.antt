@@ -1,12 +1,6 @@
 -- `log2uds::put_notes` meets its contract.
-use Prim.Native.Nat.{◌-◌}
-use mathlib.Core.Path.{◌≡◌}
-use lib.ListN.{length}
 use Rattle.log2uds.proofs.Notes.{Copied}
 use Rattle.log2uds.proofs.put_notes.Given as goal
 
 abbrev pub invariant-loop-i : goal.invariant-loop-i
-invariant-loop-i l = Copied l.lines l.out l.keep l.n l.i × (length l.out ≡ length l.initial.out)
-
-abbrev pub decreases-loop-i : goal.decreases-loop-i
-decreases-loop-i l = length l.lines - l.i
+invariant-loop-i l = Copied l.lines l.out l.keep l.n l.i

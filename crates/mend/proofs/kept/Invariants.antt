@@ -1,5 +1,4 @@
 -- `kept` meets its contract.
-use Prim.Native.Nat.{◌-◌, ◌≤◌}
 use mathlib.Core.Path.{◌≡◌}
 use Rattle.rules.specs.Events.{entries_from}
 use Rattle.exchange.specs.Meaning.{form_of}
@@ -9,7 +8,4 @@ use Rattle.mend.proofs.kept.Given as goal
 
 abbrev pub invariant-loop-i : goal.invariant-loop-i
 invariant-loop-i l =
-    (l.i ≤ l.n) × (so_far (form_of l.form) l.left l.events l.n l.i l.last ≡ run 0 l.left (entries_from (form_of l.form) l.events l.n 0))
-
-abbrev pub decreases-loop-i : goal.decreases-loop-i
-decreases-loop-i l = l.n - l.i
+    so_far (form_of l.form) l.left l.events l.n l.i l.last ≡ run 0 l.left (entries_from (form_of l.form) l.events l.n 0)

@@ -1,51 +1,31 @@
 -- `put_log` meets its contract.
-use Prim.Native.Nat.{ℕ}
-use mathlib.Core.List.{List, ◌++◌}
-use mathlib.Core.Path.{subst}
-use borrow.Author.Tests.{not-true, not-false}
-use Rattle.rules.specs.Logs.{Header}
-use Rattle.rules.specs.Writing.{put_header}
-use Rattle.wire.specs.Buffers.{Copied}
+use Prim.Native.Nat.{◌-◌, ◌≤◌}
+use native.Mathlib.Omega.{arith}
+use mathlib.Core.Path.{sym, ◌∙◌}
+use lib.ListN.{length}
+use lib.Seq.{length-take-le}
+use Rattle.std.proofs.lemmas.Grind.{common_steps}
 use Rattle.logs.specs.Layout.{said}
-use Rattle.mending.specs.Mend.{arguments_in, left_in, kept_bytes, mended_header}
-use Rattle.mend.proofs.Answers.{behind-arguments, behind-header, none-put, one-put, all-put}
+use Rattle.mending.specs.Mend.{events_in}
+use Rattle.mend.proofs.Places.{kept-cut, events-whole, all-put}
 use Rattle.mend.proofs.put_log.Goals as goal
 
-pub returns-then-not-put_run : goal.returns-then-not-put_run
-returns-then-not-put_run c =
-    -- The three parts, and where the last two stand.
-    let header : List ℕ = put_header (mended_header (said c.args.old) c.args.log.now) in
-    let arguments : List ℕ = arguments_in (said c.args.old) c.args.log.now in
-    let rest : List ℕ = kept_bytes (said c.args.old) c.args.log.now ++ left_in (said c.args.old) c.args.log.now in
-    let x = c.args in
-    let old = said x.old in
-    let l = x.log.now in
-    none-put x.out.now header arguments rest x.new.arguments_at x.new.events_at (behind-header x.new old l c.requires.0)
-    (behind-arguments x.new old l c.requires.0 c.requires.1) (rw (not-true c.put_run.result c.if-not-put_run.true-raw) at c.put_run.ensures)
+pub slice_bounds-copy_from_slice-length-3 : goal.slice_bounds-copy_from_slice-length-3
+slice_bounds-copy_from_slice-length-3 c =
+    let a = c.args in
+    let whole = events-whole a.new (said a.old) a.log.now c.requires.new in
+    rw c.events_in.ensures (sym (length-take-le _ (events_in (said a.old) a.log.now) whole))
 
-pub returns-then-not-copy_into : goal.returns-then-not-copy_into
-returns-then-not-copy_into c =
-    -- The three parts, and where the last two stand.
-    let header : List ℕ = put_header (mended_header (said c.args.old) c.args.log.now) in
-    let arguments : List ℕ = arguments_in (said c.args.old) c.args.log.now in
-    let rest : List ℕ = kept_bytes (said c.args.old) c.args.log.now ++ left_in (said c.args.old) c.args.log.now in
-    let x = c.args in
-    let old = said x.old in
-    let l = x.log.now in
-    one-put x.out.now header arguments rest x.new.arguments_at x.new.events_at (behind-header x.new old l c.requires.0)
-    (behind-arguments x.new old l c.requires.0 c.requires.1) (rw (not-false c.put_run.result c.if-not-put_run.false-raw) at c.put_run.ensures)
-    (rw (not-true c.copy_into.result c.if-not-copy_into.true-raw, c.arguments_in.ensures) at c.copy_into.ensures)
+pub copy_from_slice-requires-2 : goal.copy_from_slice-requires-2
+copy_from_slice-requires-2 c =
+    let a = c.args in
+    let whole : a.new.replies_at - a.new.events_at ≤ length c.events_in.result.now = rw c.events_in.ensures (events-whole a.new (said a.old) a.log.now c.requires.new) in
+    grind (arith, common_steps)
 
 pub returns : goal.returns
 returns c =
-    -- The three parts, and where the last two stand.
-    let header : List ℕ = put_header (mended_header (said c.args.old) c.args.log.now) in
-    let arguments : List ℕ = arguments_in (said c.args.old) c.args.log.now in
-    let rest : List ℕ = kept_bytes (said c.args.old) c.args.log.now ++ left_in (said c.args.old) c.args.log.now in
-    let x = c.args in
-    let old = said x.old in
-    let l = x.log.now in
-    all-put x.out.now header arguments rest x.new.arguments_at x.new.events_at (behind-header x.new old l c.requires.0)
-    (behind-arguments x.new old l c.requires.0 c.requires.1) (rw (not-false c.put_run.result c.if-not-put_run.false-raw) at c.put_run.ensures)
-    (rw (not-false c.copy_into.result c.if-not-copy_into.false-raw, c.arguments_in.ensures) at c.copy_into.ensures)
-    (subst (λ (h : Header). Copied c.copy_into.new.buffer 0 (put_header h) c.put_header.result c.put_header.new.buffer) c.requires.0 c.put_header.ensures)
+    let a = c.args in
+    all-put a.new (said a.old) a.log.now c.requires.new c.requires.whole c.requires.room c.put_header.ensures
+    (c.copy_from_slice.ensures.after ∙ c.arguments_in.ensures)
+    (c.copy_from_slice-2.ensures.after ∙ rw c.events_in.ensures (kept-cut a.new (said a.old) a.log.now c.requires.new))
+    (c.copy_from_slice-3.ensures.after ∙ c.left_in.ensures)

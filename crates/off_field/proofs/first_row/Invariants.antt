@@ -1,20 +1,8 @@
--- `off_field::first_row` meets its contract.
-use Prim.Native.Nat.{ℕ, ◌+◌, ◌-◌, ◌≤◌}
-use mathlib.Core.List.{List}
+-- `off_field::first_row` meets its contract: none of the rows so far is off.
 use mathlib.Core.Path.{◌≡◌}
 use lib.ListN.{drop}
-use Rattle.rules.specs.Logs.{uses_of}
-use Rattle.logs.specs.declared.header.Header as Code
-use Rattle.logs.specs.Layout.{said}
-use Rattle.log_fields.specs.Fields.{Field, header_fields}
-use Rattle.off_field.specs.Numbers.{first_of}
+use Rattle.off_field.specs.Numbers.{first_row}
 use Rattle.off_field.proofs.first_row.Given as goal
 
-abbrev pub fs : Code.Header → ℕ → List Field
-fs h n = header_fields (said h) (uses_of h.call) n
-
-abbrev pub invariant-loop-i : goal.invariant-loop-i
-invariant-loop-i l = (l.i ≤ 18) × (l.i + first_of (drop l.i (fs l.h l.n)) ≡ first_of (fs l.h l.n))
-
-abbrev pub decreases-loop-i : goal.decreases-loop-i
-decreases-loop-i l = 18 - l.i
+abbrev pub invariant-loop-row : goal.invariant-loop-row
+invariant-loop-row l = first_row l.rows ≡ first_row (drop l.row-index l.rows)

@@ -1,5 +1,5 @@
--- `off_field::put_events` meets its contract.
-use Prim.Native.Nat.{◌-◌, ◌≤◌}
+-- `off_field::put_events` meets its contract: no event so far has a field that is off.
+use Prim.Native.Nat.{◌-◌}
 use mathlib.Core.Path.{◌≡◌}
 use Rattle.rules.specs.Events.{entries_from, entries}
 use Rattle.exchange.specs.Meaning.{form_of}
@@ -8,10 +8,6 @@ use Rattle.off_field.proofs.put_events.Given as goal
 
 abbrev pub invariant-loop-i : goal.invariant-loop-i
 invariant-loop-i l =
-    (l.i ≤ l.n) ×
     (l.text ≡ l.initial.text) ×
-    (first (entries_fields (form_of l.form) l.from l.i (entries_from (form_of l.form) l.events (l.n - l.i) l.i)) ≡
+    (first (entries_fields (form_of l.form) l.from l.i (entries_from (form_of l.form) l.events (l.i-end - l.i) l.i)) ≡
     first (entries_fields (form_of l.form) l.from 0 (entries (form_of l.form) l.events)))
-
-abbrev pub decreases-loop-i : goal.decreases-loop-i
-decreases-loop-i l = l.n - l.i

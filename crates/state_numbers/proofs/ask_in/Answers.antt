@@ -1,33 +1,14 @@
--- `state_numbers::ask_in` meets its contract.
-use Rattle.state_numbers.proofs.Keeping.{no-such-call, asks-in, asks-none-in}
+-- `state_numbers::ask_in` meets its contract. (The check finds this goal too, near one of its limits.)
+use Rattle.std.proofs.Common.{arith, ◌%◌, ap, subst, Some}
+use borrow.Author.Tests.{le-leb}
+use Rattle.rules.specs.Logs.{Header}
+use Rattle.log_call.specs.Asking.{AskedBy}
+use Rattle.state_numbers.specs.Kept.{number}
 use Rattle.state_numbers.proofs.ask_in.Goals as goal
 
-pub returns-then-call-gt15 : goal.returns-then-call-gt15
-returns-then-call-gt15 c = no-such-call c.args.state c.byte-call.ensures c.if-call-gt15.true
-
-pub returns-in-Ask : goal.returns-in-Ask
-returns-in-Ask c =
-    asks-in c.args.state c.byte-call.ensures c.if-call-gt15.false (rw (
-      c.byte-call.ensures,
-      c.byte.ensures,
-      c.two_bytes.ensures,
-      c.byte-2.ensures,
-      c.four_bytes.ensures,
-      c.four_bytes-2.ensures,
-      c.four_bytes-3.ensures,
-      c.two_bytes-2.ensures,
-    ) at c.fields-h.ensures) c.in-Ask.is c.ask_of.ensures c.two_bytes-in-Ask.ensures
-    c.limited.ensures
-
-pub returns-in-Unsound : goal.returns-in-Unsound
-returns-in-Unsound c =
-    asks-none-in c.args.state c.byte-call.ensures c.if-call-gt15.false (rw (
-      c.byte-call.ensures,
-      c.byte.ensures,
-      c.two_bytes.ensures,
-      c.byte-2.ensures,
-      c.four_bytes.ensures,
-      c.four_bytes-2.ensures,
-      c.four_bytes-3.ensures,
-      c.two_bytes-2.ensures,
-    ) at c.fields-h.ensures) c.in-Unsound.is c.ask_of.ensures
+pub returns : goal.returns
+returns c =
+    let ask = c.in_ok-ask.ask in
+    let asks = subst (λ (h : Header). AskedBy h (Some ask)) c.header_in-h.ensures c.in_ok-ask.ensures in
+    let call = ap (λ (h : Header). h.call) c.header_in-h.ensures in
+    (rw (le-leb (number c.args.state 19 % 256) 15 (omega (arith, call))) asks.0, ask, asks.1, c.limited.ensures)

@@ -5,5 +5,4 @@ use Rattle.stores.proofs.first_address.Goals as goal
 
 pub returns : goal.returns
 unfolding store_of
-returns c =
-    omega (arith, c.wide64.ensures, c.u32_at.ensures, c.wide64-2.ensures, c.u32_at-2.ensures)
+returns c = omega (arith, c.u32_at.ensures, c.u32_at-2.ensures)

@@ -3,5 +3,4 @@ use Rattle.text.proofs.Adding.{appends, both}
 use Rattle.story_checks.proofs.put_check.Goals as goal
 
 pub returns : goal.returns
-returns c =
-    both (both (appends c.append-a.ensures) c.put_wanted-b.ensures) c.put_verdict.ensures
+returns c = rw (← c.verdict.ensures) (both (both (appends c.append-a.ensures) c.put_wanted-b.ensures) (appends c.append.ensures))

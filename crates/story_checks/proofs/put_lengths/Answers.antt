@@ -5,4 +5,4 @@ use Rattle.story_checks.proofs.put_lengths.Goals as goal
 
 pub returns : goal.returns
 unfolding lenient_line
-returns c = both (appends c.append-a.ensures) c.put_verdict.ensures
+returns c = rw (← c.verdict.ensures) (both (appends c.append-a.ensures) (appends c.append.ensures))

@@ -6,13 +6,12 @@ use Rattle.telling.specs.Words.{said}
 use Rattle.text.proofs.Adding.{nothing, saying}
 use Rattle.story_exchange.proofs.put_cut.Goals as goal
 
-pub returns-in-Never : goal.returns-in-Never
-returns-in-Never c = rw c.in-Never.is (nothing _ _)
-
-pub returns-then-finish-overall : goal.returns-then-finish-overall
-returns-then-finish-overall c = rw (c.in-At.is, le-leb _ _ c.if-finish-overall.true) (nothing _ _)
-
-pub returns-else-finish-overall : goal.returns-else-finish-overall
+pub returns-in-Some : goal.returns-in-Some
 unfolding said
-returns-else-finish-overall c =
-    rw (c.in-At.is, lt-leb _ _ c.if-finish-overall.false) (saying (sym (append-nil _)) c.put_over.ensures)
+returns-in-Some c = rw (c.in-Some.is, lt-leb _ _ c.if-overall-finish.true) (saying (sym (append-nil _)) c.put_over.ensures)
+
+pub returns-in_default : goal.returns-in_default
+returns-in_default c = rw (c.in-Some.is, le-leb _ _ c.if-overall-finish.false) (nothing _ _)
+
+pub returns-in_default-2 : goal.returns-in_default-2
+returns-in_default-2 c = rw c.in_default.is (nothing _ _)

@@ -1,22 +1,23 @@
 -- `story_lines::put_on` meets its contract.
+use Rattle.std.proofs.Common.{◌≡◌, ◌∙◌, ap, ℕ, List, ◌++◌, Bor}
 use borrow.Author.Tests.{eq-eqb, ne_eqb}
-use Rattle.telling.specs.Words.{on_text}
-use Rattle.text.proofs.Adding.{appends, both}
+use Rattle.rules.specs.Lines.{ascii}
+use Rattle.exchange.specs.Meaning.{entry_of}
+use Rattle.telling.specs.Words.{on_text, tail}
+use Rattle.text.proofs.Adding.{appends, both, saying}
+use Rattle.story_lines.proofs.put_on.Goals.{then-event-ne0, else-event-ne0+then-event-listens, else-event-ne0+else-event-listens}
 use Rattle.story_lines.proofs.put_on.Goals as goal
-
-pub returns-then-event-listens : goal.returns-then-event-listens
-unfolding on_text
-returns-then-event-listens c =
-    rw (eq-eqb _ 0 c.if-event-eq0.true, ne_eqb _ _ c.if-event-listens.true)
-    (both (appends c.append-a.ensures) c.put_tail.ensures)
-
-pub returns-then-event-eq0 : goal.returns-then-event-eq0
-unfolding on_text
-returns-then-event-eq0 c =
-    rw (eq-eqb _ 0 c.if-event-eq0.true, eq-eqb _ _ c.if-event-listens.false)
-    (both (appends c.append-a-then-event-eq0.ensures) c.put_tail-then-event-eq0.ensures)
 
 pub returns : goal.returns
 unfolding on_text
 returns c =
-    rw (ne_eqb _ 0 c.if-event-eq0.false) (both (appends c.append-a-2.ensures) c.put_tail-2.ensures)
+    let x = c.args in
+    let all : Bor (List ℕ) × ℕ × Bor (List ℕ) → List ℕ = λ t. t.0.now ++ tail t.1 t.2.now x.before (ascii " -> ") x.next.deadline in
+    let words : all c.if-event-ne0.count ≡ on_text x.listens (entry_of x.event) x.before x.next.read.all x.next.notices.all x.next.deadline =
+    elim c.if-event-ne0.branch [
+      | then-event-ne0 w ↦ ap all w.count-is ∙ rw (ne_eqb _ 0 w.if-event-ne0.true)
+      | else-event-ne0+then-event-listens w ↦ ap all w.count-is ∙ rw (eq-eqb _ 0 w.if-event-ne0.false, ne_eqb _ _ w.if-event-listens.true)
+      | else-event-ne0+else-event-listens w ↦ ap all w.count-is ∙ rw (eq-eqb _ 0 w.if-event-ne0.false, eq-eqb _ _ w.if-event-listens.false)
+    ]
+    in
+    saying words (both (appends c.append-a.ensures) c.put_tail.ensures)

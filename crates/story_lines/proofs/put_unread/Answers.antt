@@ -1,6 +1,7 @@
 -- `story_lines::put_unread` meets its contract.
+use Rattle.std.proofs.Common.{rules}
 use Rattle.text.proofs.Adding.{appends, both}
 use Rattle.story_lines.proofs.put_unread.Goals as goal
 
 pub returns : goal.returns
-returns c = both c.put_event-a.ensures (appends c.append.ensures)
+returns c = search (rules, both, appends)

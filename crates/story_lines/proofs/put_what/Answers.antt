@@ -1,31 +1,30 @@
 -- `story_lines::put_what` meets its contract.
-use mathlib.Core.Path.{ap}
+use Rattle.std.proofs.Common.{rules, arith}
+use mathlib.Core.Path.{ap, ◌∙◌}
 use borrow.Author.Tests.{eq-eqb, ne_eqb}
-use Rattle.telling.specs.Words.{what}
-use Rattle.text.proofs.Adding.{appends, both}
-use mathlib.Core.Path.{◌∙◌}
-use Rattle.telling.specs.Words.{shown}
-use Rattle.text.proofs.Adding.{saying}
+use Rattle.telling.specs.Words.{what, shown}
+use Rattle.text.proofs.Adding.{appends, both, saying}
+use Rattle.text.proofs.Numerals.{two-bytes}
 use Rattle.story_lines.proofs.put_what.Goals as goal
 
-pub returns-then-kind-eq0 : goal.returns-then-kind-eq0
+pub returns-in-0 : goal.returns-in-0
 unfolding what
-returns-then-kind-eq0 c =
-    rw (eq-eqb _ 0 c.if-kind-eq0.true)
-    (both c.put_whose-a.ensures (saying (ap shown (c.part.ensures ∙ ap (λ p. p.bytes) c.named-place.ensures.means)) c.put_shown.ensures))
+returns-in-0 c =
+    rw (eq-eqb _ 0 c.in-0.is, ← c.whose.ensures)
+    (both (appends c.append-a.ensures) (saying (ap shown (c.part.ensures ∙ ap (λ p. p.bytes) c.named-place.ensures.means)) c.put_shown.ensures))
 
-pub returns-then-kind-eq1 : goal.returns-then-kind-eq1
+pub returns-in-1 : goal.returns-in-1
 unfolding what
-returns-then-kind-eq1 c =
-    rw (ne_eqb _ 0 c.if-kind-eq0.false, eq-eqb _ 1 c.if-kind-eq1.true) (appends c.append.ensures)
+returns-in-1 c = search (rules, appends)
 
-pub returns-then-kind-eq2 : goal.returns-then-kind-eq2
+pub returns-in-2 : goal.returns-in-2
 unfolding what
-returns-then-kind-eq2 c =
-    rw (ne_eqb _ 0 c.if-kind-eq0.false, ne_eqb _ 1 c.if-kind-eq1.false, eq-eqb _ 2 c.if-kind-eq2.true) (appends c.append-then-kind-eq2.ensures)
+returns-in-2 c = search (rules, appends)
 
-pub returns : goal.returns
+pub returns-in_default : goal.returns-in_default
 unfolding what
-returns c =
-    rw (ne_eqb _ 0 c.if-kind-eq0.false, ne_eqb _ 1 c.if-kind-eq1.false, ne_eqb _ 2 c.if-kind-eq2.false)
-    (both (appends c.append-a.ensures) c.put_shown-2.ensures)
+returns-in_default c =
+    let kind = c.args.event.kind in
+    let number = c.to_be_bytes.ensures ∙ two-bytes c.args.event.size (omega arith) in
+    rw (ne_eqb kind 0 (omega arith), ne_eqb kind 1 (omega arith), ne_eqb kind 2 (omega arith))
+    (both (appends c.append-a-in_default.ensures) (saying (ap shown number) c.put_shown-in_default.ensures))

@@ -11,5 +11,5 @@ returns-then-text-lt-LONGEST c = no_room _ _ c.if-text-lt-LONGEST.true
 pub returns : goal.returns
 unfolding story
 returns c =
-    told c.args.log.now c.args.text.now (λ i. omega (arith, c.shared_slice_known-1.given i))
+    told c.args.log.now c.args.text.now (λ i. omega (arith, c.type_inv.log i))
     c.if-text-lt-LONGEST.false (both c.put_telling-at.ensures c.put_last.ensures)

@@ -11,19 +11,6 @@ pub returns-then-bytes-eq0 : goal.returns-then-bytes-eq0
 returns-then-bytes-eq0 c =
     rw (behind-none c.args.bytes.now c.if-bytes-eq0.true) (none c.args.line.now c.args.at)
 
-pub put_byte-n-requires : goal.put_byte-n-requires
-put_byte-n-requires c =
-    omega (arith, c.requires, ap (length {A = ℕ}) (behind-some c.args.bytes.now c.if-bytes-eq0.false))
-
-pub put_hex-requires : goal.put_hex-requires
-put_hex-requires c =
-    omega (
-      arith,
-      c.requires,
-      ap (length {A = ℕ}) (behind-some c.args.bytes.now c.if-bytes-eq0.false),
-      c.put_byte-n.ensures.next,
-    )
-
 pub returns : goal.returns
 returns c =
     let some = behind-some c.args.bytes.now c.if-bytes-eq0.false in

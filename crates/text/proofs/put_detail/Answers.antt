@@ -2,14 +2,9 @@
 use Prim.Native.Nat.{◌+◌}
 use native.Mathlib.Omega.{arith}
 use lib.ListN.{length}
-use Rattle.text.proofs.Numerals.{hex-length, shown-least, shown-double, detail-none, detail-some}
+use Rattle.text.proofs.Numerals.{hex-length, shown-double, detail-none, detail-some}
 use Rattle.text.proofs.Writing.{then}
 use Rattle.text.proofs.put_detail.Goals as goal
-
-pub put_byte-requires : goal.put_byte-requires
-put_byte-requires c =
-    let a = c.args in
-    omega (arith, shown-least (length a.head.now + length a.bytes.now))
 
 pub returns-then-head-bytes-eq0 : goal.returns-then-head-bytes-eq0
 returns-then-head-bytes-eq0 c =

@@ -1,22 +1,11 @@
 -- `text::put_line` meets its contract.
-use native.Mathlib.Omega.{arith}
-use Rattle.text.proofs.Standing.{full, enough, stands}
+use Rattle.text.proofs.Standing.{full, stands}
 use Rattle.text.proofs.put_line.Goals as goal
 
 pub returns-then-not-has_room : goal.returns-then-not-has_room
 returns-then-not-has_room c =
     let a = c.args in
     full a.word.now a.head.now a.bytes.now a.line.now a.time a.events a.notices c.has_room.ensures c.if-not-has_room.true
-
-pub put_word-a-requires : goal.put_word-a-requires
-put_word-a-requires c =
-    let a = c.args in
-    omega (arith, enough a.word.now a.head.now a.bytes.now a.line.now a.time a.events a.notices c.has_room.ensures c.if-not-has_room.false)
-
-pub put_rest-requires : goal.put_rest-requires
-put_rest-requires c =
-    let a = c.args in
-    omega (arith, enough a.word.now a.head.now a.bytes.now a.line.now a.time a.events a.notices c.has_room.ensures c.if-not-has_room.false)
 
 pub returns : goal.returns
 returns c =

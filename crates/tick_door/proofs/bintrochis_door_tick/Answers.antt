@@ -1,36 +1,25 @@
--- `tick_door::bintrochis_door_tick` meets its contract.
-use Prim.Native.Nat.{ℕ}
-use mathlib.Core.Path.{◌≡◌, subst}
+-- `tick_door::bintrochis_door_tick` meets its contract where the engine is told the time.
+use Rattle.std.proofs.Common.{◌≡◌, List, ℕ, Ok, Err, refl, subst}
 use Rattle.steps.specs.declared.Engine.{Engine}
-use Rattle.steps.specs.declared.Stepped.{Stepped}
-use Rattle.steps.specs.Stepping.{tick_of}
-use Rattle.state_numbers.specs.Kept.{AskedIn, Told}
-use Rattle.step_door.proofs.Ways.{was_settled, asked-nothing, step-refused, step-taken}
+use Rattle.steps.specs.Stepping.{Stepped, stepped_in, tick_of}
+use Rattle.steps.proofs.Unique.{never-zero}
+use Rattle.state_numbers.specs.Kept.{Told}
+use Rattle.step_door.proofs.Ways.{step-refused, step-taken}
 use Rattle.tick_door.proofs.bintrochis_door_tick.Goals as goal
 
 abbrev ticks : ℕ → Engine → Stepped → Type 0
 ticks t e y = y ≡ tick_of e t
 
-pub returns-then-s-ne-WAITING : goal.returns-then-s-ne-WAITING
-returns-then-s-ne-WAITING c =
+pub returns-in-Ok : goal.returns-in-Ok
+returns-in-Ok c =
     let a = c.args in
-    was_settled a.state.now (ticks a.time) c.if-s-ne-WAITING.true
+    let engine = c.in-Ok.engine in
+    step-taken a.state.now (ticks a.time) c.if-s-ne-WAITING.false c.in-Some.ensures
+    (subst (λ (e : Engine). ticks a.time e (stepped_in e (Ok engine))) c.engine_in.ensures c.in-Ok.ensures) refl
+    (subst (λ (kept : List ℕ). Told engine kept engine.phase c.told.result) c.asking.ensures c.told.ensures)
 
-pub returns-in_default : goal.returns-in_default
-returns-in_default c =
+pub returns-in-Err : goal.returns-in-Err
+returns-in-Err c =
     let a = c.args in
-    asked-nothing a.state.now (ticks a.time) c.if-s-ne-WAITING.false (subst (AskedIn a.state.now) c.in_default.is c.ask_in.ensures)
-
-pub returns-then-refusal-ne0 : goal.returns-then-refusal-ne0
-returns-then-refusal-ne0 c =
-    let a = c.args in
-    step-refused a.state.now (ticks a.time) c.if-s-ne-WAITING.false (subst (AskedIn a.state.now) c.in-Ask.is c.ask_in.ensures)
-    (subst (λ e. ticks a.time e c.tick-stepped.result) c.engine_in.ensures c.tick-stepped.ensures) c.if-refusal-ne0.true
-
-pub returns : goal.returns
-returns c =
-    let a = c.args in
-    let y = c.tick-stepped.result in
-    step-taken a.state.now (ticks a.time) c.if-s-ne-WAITING.false (subst (AskedIn a.state.now) c.in-Ask.is c.ask_in.ensures)
-    (subst (λ e. ticks a.time e y) c.engine_in.ensures c.tick-stepped.ensures) c.if-refusal-ne0.false
-    (subst (λ kept. Told y.engine kept y.engine.phase c.told.result) c.asking.ensures c.told.ensures)
+    rw c.from.ensures (step-refused a.state.now (ticks a.time) c.if-s-ne-WAITING.false c.in-Some.ensures
+    (subst (λ (e : Engine). ticks a.time e (stepped_in e (Err c.in-Err.refusal))) c.engine_in.ensures c.in-Err.ensures) (never-zero c.in-Err.refusal))

@@ -1,33 +1,21 @@
--- `udsbench::hear` meets its contract: i bytes were heard, and what is said of them is written.
-use Rattle.std.proofs.Common.{ap, subst, take, arith}
-use lib.Seq.{take_all}
+-- `udsbench::hear` meets its contract: some bytes were heard, and what is said of them is written.
+use Rattle.std.proofs.Common.{refl, subst}
 use Rattle.std.specs.Io.KnownBytes.{Appends}
 use Rattle.std.proofs.KnownBytes.{Appends-nil, Appends-trans}
-use Rattle.udsbench.specs.Hearing.{bench, saying}
-use Rattle.udsbench.proofs.Hearing.{turn, begin, finish, saying-turn}
+use Rattle.udsbench.specs.Hearing.{hearing, saying}
+use Rattle.udsbench.proofs.Hearing.{heard-more, said-more}
 use Rattle.udsbench.proofs.hear.Goals as goal
 
-pub loop-i-init : goal.loop-i-init
-unfolding saying
-loop-i-init g c =
-    (omega arith, begin c.args.store.now c.args.kept.now c.args.len c.args.input.now c.requires.0 c.requires.1, Appends-nil _)
+pub loop-byte-init : goal.loop-byte-init
+unfolding hearing saying
+loop-byte-init g c = record { stands = refl; said = Appends-nil _ }
 
-pub hear_byte-requires : goal.hear_byte-requires
-hear_byte-requires g c = (c.loop-i.invariant.1.whole, c.loop-i.invariant.1.most)
-
-pub loop-i-preserved : goal.loop-i-preserved
-loop-i-preserved g c =
-    let l = c.loop-i in (
-      omega (arith, c.loop-i-test.true),
-      turn _ c.args.input.now l.i c.loop-i-test.true l.invariant.1 c.in_ok-n.ensures.0,
-      subst (Appends _ _) (saying-turn _ c.args.input.now l.i c.loop-i-test.true l.invariant.1)
-          (Appends-trans _ _ _ _ _ l.invariant.2 c.in_ok-n.ensures.1),
-    )
-
-pub returns : goal.returns
-returns g c =
-    let l = c.loop-i in
-    let b = bench c.args.store.now (take c.args.len c.args.kept.now) in (
-      finish _ c.args.input.now l.i c.loop-i-test.false l.invariant.1,
-      subst (Appends _ _) (ap (saying b) (take_all l.i c.args.input.now c.loop-i-test.false)) l.invariant.2,
-    )
+pub loop-byte-preserved : goal.loop-byte-preserved
+loop-byte-preserved g c =
+    let v = c.loop-byte.invariant in
+    record {
+      stands = heard-more _ c.args.input.now c.loop-byte.byte-index c.loop-byte-test.true v.stands c.in_ok-hear_byte.ensures.0;
+      said =
+          subst (Appends _ _) (said-more _ c.args.input.now c.loop-byte.byte-index c.loop-byte-test.true v.stands)
+          (Appends-trans _ _ _ _ _ v.said c.in_ok-hear_byte.ensures.1);
+    }

@@ -1,32 +1,25 @@
--- What came was heard, to the end of the input.
-use Rattle.std.proofs.Common.{ℕ, List, [], take, ap, arith}
-use lib.Seq.{length-take-le}
-use Rattle.bench.specs.Talk.{talk}
+-- `udsbench::listen` meets its contract: what came was heard, to the end of the input.
+use Rattle.std.proofs.Common.{ℕ, List, length, length-take, ap, arith}
 use Rattle.udsbench.proofs.Reading.{none, more, still, answered, nothing-left}
 use Rattle.udsbench.proofs.listen.Goals as goal
 
-pub loop-turns-init : goal.loop-turns-init
-loop-turns-init g c = (omega arith, c.requires, none _ _ c.args.store.now [])
+pub loop-init : goal.loop-init
+loop-init g c = rw c.none-kept.ensures (none _ _ _)
 
-pub loop-turns-preserved : goal.loop-turns-preserved
-loop-turns-preserved g c =
-    let kept = rw c.in-More.is at c.in_ok-n.ensures.kept in
-    let (piece, taken, said, (long, heard)) = rw c.in-More.is at c.in_ok-n.ensures.heard in
-    (kept.1, kept.0, more c.loop-turns-test.true c.loop-turns.invariant.2 piece taken said long heard)
+pub loop-preserved : goal.loop-preserved
+loop-preserved g c =
+    let (piece, taken, said, (long, heard)) = rw c.if-not-branch.false at c.in_ok-read_on.ensures in
+    more c.loop.invariant piece taken said long heard
 
-pub returns-in_ok-answer-in-End : goal.returns-in_ok-answer-in-End
-returns-in_ok-answer-in-End g c =
-    let kept = rw c.in-End.is at c.in_ok-n.ensures.kept in
-    let (piece, taken, said, (end, none, heard)) = rw c.in-End.is at c.in_ok-n.ensures.heard in
-    let came = still c.loop-turns.invariant.2 piece taken said none heard in
-    let line = take c.loop-turns.len c.read_on.new.kept in
-    let long = length-take-le c.loop-turns.len c.read_on.new.kept (omega (arith, kept.0, c.loop-turns.invariant.0)) in
-    answered came end _ (ap (λ (l : List ℕ). (talk c.read_on.new.store l).text) c.part.ensures) (omega (arith, long, c.if-len-gt0.true))
-    c.in_ok-answer-in-End.ensures.said
+pub returns-in_ok-answer : goal.returns-in_ok-answer
+returns-in_ok-answer g c =
+    let (piece, taken, said, (end, none, same)) = rw c.if-not-branch.true at c.in_ok-read_on.ensures in
+    let line = c.line.ensures.bytes in
+    let long = ap (λ (k : List ℕ). length k) line in
+    answered (still c.loop.invariant piece taken said none same) end _ (omega (arith, long, c.line.ensures.long, c.if-kept-gt0.true)) (rw line at c.in_ok-answer.ensures.said)
 
-pub returns-else-len-gt0 : goal.returns-else-len-gt0
-returns-else-len-gt0 g c =
-    let (piece, taken, said, (end, none, heard)) = rw c.in-End.is at c.in_ok-n.ensures.heard in
-    let kept = rw c.in-End.is at c.in_ok-n.ensures.kept in
-    let long = length-take-le c.loop-turns.len c.read_on.new.kept (omega (arith, kept.0, c.loop-turns.invariant.0)) in
-    nothing-left (still c.loop-turns.invariant.2 piece taken said none heard) end (omega (arith, long, c.if-len-gt0.false))
+pub returns-else-kept-gt0 : goal.returns-else-kept-gt0
+returns-else-kept-gt0 g c =
+    let (piece, taken, said, (end, none, same)) = rw c.if-not-branch.true at c.in_ok-read_on.ensures in
+    let kept = c.read_on.new.kept in
+    nothing-left (still c.loop.invariant piece taken said none same) end (omega (arith, length-take kept.len kept.bytes, c.if-kept-gt0.false))

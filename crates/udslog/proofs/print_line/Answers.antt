@@ -13,7 +13,7 @@ returns g c =
     if_some (g.R.Read.remaining c.args.log.now)
     (λ bytes front.
     subst (Appends _ _)
-    (c.part.ensures ∙ c.line_of-m.ensures ∙ ap line_of (front ∙ ap (λ (k : ℕ). take k bytes) long))
+    (c.part-2.ensures ∙ c.line_of-m.ensures ∙ ap line_of (c.part.ensures ∙ front ∙ ap (λ (k : ℕ). take k bytes) long))
     written)
     c.in_ok-n.ensures.front)
     c.write_full.ensures

@@ -1,18 +1,12 @@
 -- `wire::memory_bytes` meets its contract.
-use Prim.Native.Nat.{◌-◌, ◌/◌, ◌^◌, ◌≤◌}
+use Prim.Native.Nat.{◌-◌, ◌/◌, ◌^◌}
 use mathlib.Core.List.{◌++◌}
 use mathlib.Core.Path.{◌≡◌}
-use lib.ListN.{length, take, drop}
+use lib.ListN.{take, drop}
 use Rattle.rules.specs.Bytes.{bytes_of}
-use Rattle.wire.proofs.Numbers.{written}
 use Rattle.wire.proofs.memory_bytes.Given as goal
 
 abbrev pub invariant-loop-written : goal.invariant-loop-written
 invariant-loop-written l =
-    (l.written ≤ l.width) ×
     (l.rest ≡ l.value / 256 ^ l.written) ×
-    (l.bytes ≡ take (l.width - l.written) l.initial.bytes ++ (bytes_of l.written l.value ++ drop l.width l.initial.bytes)) ×
-    (length l.bytes ≡ 15)
-
-abbrev pub decreases-loop-written : goal.decreases-loop-written
-decreases-loop-written l = l.width - l.written
+    (l.bytes ≡ take (l.width - l.written) l.initial.bytes ++ (bytes_of l.written l.value ++ drop l.width l.initial.bytes))

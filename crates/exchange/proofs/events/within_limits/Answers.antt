@@ -1,17 +1,13 @@
 -- `exchange::events::within_limits` meets its contract.
 use Prim.Native.Nat.{◌+◌, ◌-◌}
 use native.Mathlib.Omega.{arith}
-use native.Mathlib.Nat.{sub-zero}
 use mathlib.Core.Path.{◌≡◌, sym, ◌∙◌}
 use mathlib.Core.Bool.{Bool, true, false, ◌&&◌}
 use borrow.Author.Tests.{lt-leb, eq-eqb, ne_eqb, not-true, not-false}
 use Rattle.rules.specs.Events.{entries, entries_from, within_limits}
-use Rattle.exchange.proofs.Entries.{size-some, limits, limits-fall, limits-go, no-entry, within, are-bytes}
+use Rattle.exchange.proofs.Entries.{limits, limits-fall, limits-go, no-entry, within, are-bytes}
 use Rattle.exchange.specs.Meaning.{form_of, entry_of}
 use Rattle.exchange.proofs.events.within_limits.Goals as goal
-
-pub nonzero_rem-events : goal.nonzero_rem-events
-nonzero_rem-events c = omega (arith, c.event_size-size.ensures, size-some (form_of c.args.form))
 
 pub returns-then-events-size-ne0 : goal.returns-then-events-size-ne0
 unfolding within_limits
@@ -21,12 +17,6 @@ pub returns-then-n-gt512 : goal.returns-then-n-gt512
 unfolding within_limits
 returns-then-n-gt512 c =
     rw (← c.event_count-n.ensures, ← c.event_size-size.ensures, eq-eqb _ 0 c.if-events-size-ne0.false, lt-leb _ 512 c.if-n-gt512.true)
-
-pub loop-i-init : goal.loop-i-init
-loop-i-init c = (omega arith, rw (sub-zero, c.event_count-n.ensures))
-
-pub event_in-event-requires : goal.event_in-event-requires
-event_in-event-requires c = rw (← c.event_count-n.ensures) c.loop-i-test.true
 
 pub returns-then-event-last : goal.returns-then-event-last
 returns-then-event-last c =
@@ -38,7 +28,7 @@ returns-then-event-last c =
     let a = c.args in
     let falls = limits-fall form a.replies.now a.events.now c.event_count-n.result l.i l.last
     (entry_of c.event_in-event.result) c.event_in-event.ensures c.loop-i-test.true c.if-event-last.true in
-    decided false (sym falls ∙ l.invariant.1)
+    decided false (sym falls ∙ l.invariant)
 
 pub sound-requires : goal.sound-requires
 sound-requires c =
@@ -54,15 +44,9 @@ returns-then-not-sound c =
     let goes : let l = c.loop-i in let a = c.args in (s : Bool) → s ≡ c.sound.result → (s && limits a.replies.now (entry_of c.event_in-event.result).time (entries_from form a.events.now (c.event_count-n.result - (l.i + 1)) (l.i + 1))) ≡ limits a.replies.now 0 (entries form a.events.now) = λ s e. let l = c.loop-i in
     let a = c.args in
     sym (limits-go form a.replies.now a.events.now c.event_count-n.result l.i l.last (entry_of c.event_in-event.result) c.event_in-event.ensures
-    c.loop-i-test.true s (e ∙ c.sound.ensures) c.if-event-last.false) ∙ l.invariant.1 in
+    c.loop-i-test.true s (e ∙ c.sound.ensures) c.if-event-last.false) ∙ l.invariant in
     decided false
     (goes false (sym (not-true _ c.if-not-sound.true-raw)))
-
-pub overflow_add-i : goal.overflow_add-i
-overflow_add-i c = omega arith
-
-pub loop-i-smaller : goal.loop-i-smaller
-loop-i-smaller c = omega arith
 
 pub loop-i-preserved : goal.loop-i-preserved
 loop-i-preserved c =
@@ -71,8 +55,8 @@ loop-i-preserved c =
     let goes : let l = c.loop-i in let a = c.args in (s : Bool) → s ≡ c.sound.result → (s && limits a.replies.now (entry_of c.event_in-event.result).time (entries_from form a.events.now (c.event_count-n.result - (l.i + 1)) (l.i + 1))) ≡ limits a.replies.now 0 (entries form a.events.now) = λ s e. let l = c.loop-i in
     let a = c.args in
     sym (limits-go form a.replies.now a.events.now c.event_count-n.result l.i l.last (entry_of c.event_in-event.result) c.event_in-event.ensures
-    c.loop-i-test.true s (e ∙ c.sound.ensures) c.if-event-last.false) ∙ l.invariant.1 in
-    (omega arith, goes true (sym (not-false _ c.if-not-sound.false-raw)))
+    c.loop-i-test.true s (e ∙ c.sound.ensures) c.if-event-last.false) ∙ l.invariant in
+    goes true (sym (not-false _ c.if-not-sound.false-raw))
 
 pub returns : goal.returns
 returns c =
@@ -83,4 +67,4 @@ returns c =
     let l = c.loop-i in
     let a = c.args in
     decided true
-    (rw (no-entry form a.events.now c.event_count-n.result l.i c.loop-i-test.false) at l.invariant.1)
+    (rw (no-entry form a.events.now c.event_count-n.result l.i c.loop-i-test.false) at l.invariant)

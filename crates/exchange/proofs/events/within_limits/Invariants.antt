@@ -1,5 +1,5 @@
 -- `exchange::events::within_limits` meets its contract.
-use Prim.Native.Nat.{◌-◌, ◌≤◌}
+use Prim.Native.Nat.{◌-◌}
 use mathlib.Core.Path.{◌≡◌}
 use Rattle.rules.specs.Events.{entries, entries_from}
 use Rattle.exchange.proofs.Entries.{limits}
@@ -7,7 +7,4 @@ use Rattle.exchange.specs.Meaning.{form_of}
 use Rattle.exchange.proofs.events.within_limits.Given as goal
 
 abbrev pub invariant-loop-i : goal.invariant-loop-i
-invariant-loop-i l = (l.i ≤ l.n) × (limits l.replies l.last (entries_from (form_of l.form) l.events (l.n - l.i) l.i) ≡ limits l.replies 0 (entries (form_of l.form) l.events))
-
-abbrev pub decreases-loop-i : goal.decreases-loop-i
-decreases-loop-i l = l.n - l.i
+invariant-loop-i l = limits l.replies l.last (entries_from (form_of l.form) l.events (l.n - l.i) l.i) ≡ limits l.replies 0 (entries (form_of l.form) l.events)

@@ -6,7 +6,8 @@ use Rattle.tell.proofs.sound.put_begins.Goals as goal
 pub returns : goal.returns
 unfolding begins
 returns c =
-    both
-    (both (both (both (both (appends c.append-a.ensures) c.put_shown-b.ensures) c.put_mode-c.ensures) c.put_quiet-d.ensures)
+    rw (← c.mode.ensures, ← c.quiet.ensures)
+    (both
+    (both (both (both (both (appends c.append-a.ensures) c.put_shown-b.ensures) (appends c.append-c.ensures)) (appends c.append-d.ensures))
     (appends c.append_decimal-e.ensures))
-    (appends c.append.ensures)
+    (appends c.append.ensures))

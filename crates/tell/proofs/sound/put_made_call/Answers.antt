@@ -7,4 +7,4 @@ returns c =
     let args = c.args in
     called args.ask args.session args.request.now args.address args.size args.events.now args.answer
     c.asked_by-asked.ensures c.start.ensures c.exchange-heard.ensures c.put_begins-a.ensures
-    c.put_exchange-b.ensures (rw c.part.ensures at c.put_checks-c.ensures) c.put_concludes.ensures
+    c.put_exchange-b.ensures (rw c.part-reply.ensures at c.put_checks-c.ensures) c.put_concludes.ensures

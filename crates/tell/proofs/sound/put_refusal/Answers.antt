@@ -6,4 +6,5 @@ use Rattle.tell.proofs.sound.put_refusal.Goals as goal
 pub returns : goal.returns
 unfolding declined
 returns c =
-    both (both c.put_about-a.ensures (appends c.append_decimal-b.ensures)) (appends c.append.ensures)
+    rw (← c.about.ensures, ← c.from.ensures)
+    (both (both (appends c.append-a.ensures) (appends c.append_decimal-b.ensures)) (appends c.append.ensures))

@@ -1,9 +1,0 @@
--- `bench_line::digit` meets its contract.
-use Rattle.bench_line.proofs.Reading.{low_digit, high_digit}
-use Rattle.bench_line.proofs.digit.Goals as goal
-
-pub returns-then-d-lt10 : goal.returns-then-d-lt10
-returns-then-d-lt10 c = low_digit c.args.d c.if-d-lt10.true
-
-pub returns-else-d-lt10 : goal.returns-else-d-lt10
-returns-else-d-lt10 c = high_digit c.args.d c.if-d-lt10.false

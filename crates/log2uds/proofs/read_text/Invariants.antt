@@ -1,0 +1,12 @@
+-- `log2uds::read_text` meets its contract.
+use lib.ListN.{length}
+use Rattle.std.specs.Io.KnownBytes.{Consumes}
+use Rattle.importing.specs.Kept.{start}
+use Rattle.imports.specs.Held.{stream_of}
+use Rattle.log2uds.specs.Runs.{Came}
+use Rattle.log2uds.proofs.read_text.Given as goal
+
+abbrev pub invariant-loop : goal.invariant-loop
+invariant-loop g l =
+    (p : Came (length l.initial.out) l.ids.ask l.ids.answer start (stream_of l.stream l.lent l.out)) ×
+    Consumes (g.R.Read.remaining l.initial.text) (g.R.Read.remaining l.text) p.text

@@ -1,8 +1,0 @@
--- `log_call::sub_of` meets its contract.
-use Rattle.log_call.proofs.sub_of.Goals as goal
-
-pub returns-then-flag : goal.returns-then-flag
-returns-then-flag c = rw (← c.flag.ensures, c.if-flag.true)
-
-pub returns-else-flag : goal.returns-else-flag
-returns-else-flag c = rw (← c.flag.ensures, c.if-flag.false)
