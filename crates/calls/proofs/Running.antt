@@ -6,7 +6,7 @@ use mathlib.Core.Path.{◌≡◌, refl, sym, ◌∙◌, ap, subst, subst⁻¹}
 use mathlib.Core.List.{List, []}
 use mathlib.Core.Option.{Option}
 use lib.Dec.{eqb}
-use Rattle.std.specs.Prelude.{Ok, Err}
+use Rattle.std.specs.Prelude.{Ok, Err, Some, None}
 use Rattle.std.specs.Prelude as returned
 use lib.ListN.{length, take}
 use Rattle.rules.specs.After.{checked, after, number_of, adopted, timing_of}
@@ -34,11 +34,8 @@ use Rattle.exchange.specs.declared.types.Timing.{Timing}
 use Rattle.requests.specs.declared.Call.{Call}
 use Rattle.requests.specs.declared.Prepared.{Prepared}
 use Rattle.requests.specs.Meaning.{call_of, bare}
-use Rattle.requests.specs.Prepared.{refusal_of, prepared_of, pieces_of, Written}
+use Rattle.requests.specs.Prepared.{first, sizes, refusal_of, prepared_of, over, pieces_of, Written}
 use Rattle.requests.specs.Rows.{row_of}
-use Rattle.wire.specs.Refusing.{refusal_number}
-use Rattle.wire.specs.declared.refusal.Refusal.{Refusal}
-use Rattle.wire.specs.declared.refusal.Refusal.TheVariants.{Events}
 use Rattle.requests.proofs.Callers.{refusal_is, passes, none-of-nine, is-ready, sends, stands}
 use Rattle.requests.proofs.Refusals as refusing
 use Rattle.requests.proofs.Table.{number_is, sid-is, sub_is, sent-sub}
@@ -46,7 +43,7 @@ use Rattle.checks.specs.Answered as checking
 use Rattle.checks.specs.Answered.{fitting}
 use Rattle.checks.proofs.Inside.{as-sent, as-checked, checked-beside, number-fitting}
 use Rattle.calls.specs.Concluded.{Concluded}
-use Rattle.calls.specs.Meaning.{setting_of, lent_of, result_of, refused_of, is_refused, Called}
+use Rattle.calls.specs.Meaning.{setting_of, lent_of, result_of, refused_of, is_refused, Called, Writes}
 use Rattle.calls.specs.declared.Ask.{Ask}
 use Rattle.calls.specs.declared.Answered.{Answered}
 
@@ -130,6 +127,14 @@ pub record Given : Type 0 where
   pub lent : Lent
 
 -- The same of what a call of `run` lends.
+-- There is always a buffer that is left.
+pub written_by : (p : returned.Option Prepared) (a s d before : List ℕ) → (after : List ℕ) × Writes p a s d before after
+written_by None a s d before = (before, refl)
+written_by (Some p) a s d before =
+    let bytes = pieces_of p a s d in
+    let done = eqb (first (sizes (length bytes) (length before))) 0 in
+    (cond done (over bytes before) before, (done, record { told = refl; buffer = refl }))
+
 abbrev pub given-of : Timing → Ask → List ℕ → List ℕ → List ℕ → List ℕ → List ℕ → List ℕ → Given
 given-of session ask request a s d events replies = record {
   session = session;
@@ -169,12 +174,12 @@ module _ (g : Given) where
   abbrev Prepares : returned.Result Prepared ℕ → Type 0
   Prepares r = r ≡ prepared_of ask.call ask.quiet g.a g.s g.d (length l.buffer)
 
-  pub turned-away : (r : Refusal) → Prepares (Err (refusal_number r)) → Called ask.strict w c l (refused_of session r) l.buffer
+  pub turned-away : (n : ℕ) → Prepares (Err n) → Called ask.strict w c l (refused_of session n) l.buffer
   unfolding call
-  turned-away r is =
+  turned-away n is =
       let told = refusal_is ask.call ask.quiet g.a g.s g.d (length l.buffer) is in
       record {
-        means = sym (refusing.refused (refuse w l) ask.quiet c l.buffer l.form l.events l.replies right (refusal_number r) told.0 told.1);
+        means = sym (refusing.refused (refuse w l) ask.quiet c l.buffer l.form l.events l.replies right n told.0 told.1);
         outcome = tt;
         reply = omega arith;
       }
@@ -203,7 +208,7 @@ module _ (g : Given) where
       tested : {b : Bool} → b ≡ is_refused (outcome_of [] heard.outcome) → is_refused (judged (asked w c)).outcome ≡ b
       tested e = ap is_refused (sym outcome-heard) ∙ sym (refused-anywhere l.replies heard.outcome) ∙ sym e
 
-      pub turned-by-events : {b : Bool} → b ≡ is_refused (outcome_of [] heard.outcome) → b ≡ true → Called ask.strict w c l (refused_of session Events) l.buffer
+      pub turned-by-events : {b : Bool} → b ≡ is_refused (outcome_of [] heard.outcome) → b ≡ true → Called ask.strict w c l (refused_of session 10) l.buffer
       unfolding call
       turned-by-events e h =
           let broken = breaks ask.strict (asked w c) w.overall l (tested e ∙ h) in

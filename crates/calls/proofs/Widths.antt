@@ -148,8 +148,12 @@ module _ (g : Given) where
   abbrev Means : rules.Call → Answered → List ℕ → Type 0
   Means c r b = Called g.ask.strict setting c g.lent r b
 
-  turned : (r : Refusal) → done asked ≡ refuse setting g.lent (refusal_number r) → Means asked (refused_of g.session r) g.lent.buffer
-  turned r e = record { means = sym e; outcome = tt; reply = omega arith }
+  -- It is refused with this number.
+  abbrev Turned : ℕ → Type 0
+  Turned n = Means asked (refused_of g.session n) g.lent.buffer
+
+  turned : {n : ℕ} → done asked ≡ refuse setting g.lent n → Turned n
+  turned e = record { means = sym e; outcome = tt; reply = omega arith }
 
   moved : {c : rules.Call} {r : Answered} {b : List ℕ} → done c ≡ done asked → Means c r b → Means asked r b
   moved e k = record { means = k.means ∙ e; outcome = k.outcome; reply = k.reply }
@@ -167,16 +171,16 @@ module _ (g : Given) where
         by_number (refuse setting g.lent) (width (address g)) _ (non-zero-width (address g)) ∙
         rw (by_number (refuse setting g.lent) (width (size g)) (done (with' (given (bytes_of g.w g.v)) (given (bytes_of g.w' g.u)))) (non-zero-width (size g)))
 
-    address-refused : (r : Refusal) → Err (refusal_number r) ≡ memory_bytes g.v g.w g.wide → Means asked (refused_of g.session r) g.lent.buffer
+    address-refused : (r : Refusal) → Err (refusal_number r) ≡ memory_bytes g.v g.w g.wide → Turned (refusal_number r)
     address-refused r is =
         let z = refusal-of _ _ _ is in
-        turned r (by-numbers ∙ rw (z.0, z.1))
+        turned (by-numbers ∙ rw (z.0, z.1))
 
     module _ {a : MemoryBytes} (as-address : Ok a ≡ memory_bytes g.v g.w g.wide) where
-      size-refused : (r : Refusal) → Err (refusal_number r) ≡ memory_bytes g.u g.w' g.wide → Means asked (refused_of g.session r) g.lent.buffer
+      size-refused : (r : Refusal) → Err (refusal_number r) ≡ memory_bytes g.u g.w' g.wide → Turned (refusal_number r)
       size-refused r is =
           let z = refusal-of _ _ _ is in
-          turned r (by-numbers ∙ rw ((bytes-of _ _ _ as-address).0, z.0, z.1))
+          turned (by-numbers ∙ rw ((bytes-of _ _ _ as-address).0, z.0, z.1))
 
       as_bytes : {s : MemoryBytes} → Ok s ≡ memory_bytes g.u g.w' g.wide → {address' size' b : List ℕ} {r : Answered}
           → address' ≡ take a.len (drop 0 a.bytes) → size' ≡ take s.len (drop 0 s.bytes)
@@ -192,29 +196,34 @@ module _ (g : Given) where
     abbrev Field-bytes : returned.Result MemoryBytes ℕ → ℕ → ℕ → Type 0
     Field-bytes x v w = x ≡ cond m (memory_bytes v w g.wide) (Ok no_bytes)
 
-    pub turned-by-address : (r : Refusal) → Field-bytes (Err (refusal_number r)) g.v g.w → Means asked (refused_of g.session r) g.lent.buffer
+    pub turned-by-address : (r : Refusal) → Field-bytes (Err (refusal_number r)) g.v g.w → Turned (refusal_number r)
     turned-by-address r = go m takes
       where
         go : (y : Bool) → y ≡ takes_memory (row_of g.ask.call).takes → Err (refusal_number r) ≡ cond y (memory_bytes g.v g.w g.wide) (Ok no_bytes)
-            → Means asked (refused_of g.session r) g.lent.buffer
+            → Turned (refusal_number r)
         go true e k = address-refused (sym e) r k
         go false e k = absurd (let z : ◌≡◌ {A = ℕ} 0 1 = cc in omega arith)
 
     module _ {a : MemoryBytes} (as-address : Field-bytes (Ok a) g.v g.w) where
-      pub turned-by-size : (r : Refusal) → Field-bytes (Err (refusal_number r)) g.u g.w' → Means asked (refused_of g.session r) g.lent.buffer
+      pub turned-by-size : (r : Refusal) → Field-bytes (Err (refusal_number r)) g.u g.w' → Turned (refusal_number r)
       turned-by-size r = go m takes as-address
         where
           go : (y : Bool) → y ≡ takes_memory (row_of g.ask.call).takes → Ok a ≡ cond y (memory_bytes g.v g.w g.wide) (Ok no_bytes)
-              → Err (refusal_number r) ≡ cond y (memory_bytes g.u g.w' g.wide) (Ok no_bytes) → Means asked (refused_of g.session r) g.lent.buffer
+              → Err (refusal_number r) ≡ cond y (memory_bytes g.u g.w' g.wide) (Ok no_bytes) → Turned (refusal_number r)
           go true e j k = size-refused (sym e) j r k
           go false e j k = absurd (let z : ◌≡◌ {A = ℕ} 0 1 = cc in omega arith)
 
-      pub handed-on : {s : MemoryBytes} → Field-bytes (Ok s) g.u g.w' → {address' size' b : List ℕ} {r : Answered}
-          → address' ≡ take a.len (drop 0 a.bytes) → size' ≡ take s.len (drop 0 s.bytes)
-          → Means (with' (given address') (given size')) r b → Means asked r b
-      handed-on {s} as-size {address'} {size'} {b} {r} x z k = go m takes as-address as-size
-        where
-          go : (y : Bool) → y ≡ takes_memory (row_of g.ask.call).takes → Ok a ≡ cond y (memory_bytes g.v g.w g.wide) (Ok no_bytes)
-              → Ok s ≡ cond y (memory_bytes g.u g.w' g.wide) (Ok no_bytes) → Means asked r b
-          go true e i j = as_bytes (sym e) i j x z k
-          go false e i j = without (given address') (given size') (sym e) k
+    -- What `run` does with these bytes; where the call takes neither, with whatever stands for them.
+    pub handed-on : {a s : MemoryBytes} → (m ≡ true → Ok a ≡ memory_bytes g.v g.w g.wide) → (m ≡ true → Ok s ≡ memory_bytes g.u g.w' g.wide)
+        → {address' size' b : List ℕ} {r : Answered} → address' ≡ take a.len (drop 0 a.bytes) → size' ≡ take s.len (drop 0 s.bytes)
+        → Means (with' (given address') (given size')) r b → Means asked r b
+    handed-on {a} {s} as-address as-size {address'} {size'} {b} {r} x z k = go m takes as-address as-size
+      where
+        go : (y : Bool) → y ≡ takes_memory (row_of g.ask.call).takes → (y ≡ true → Ok a ≡ memory_bytes g.v g.w g.wide)
+            → (y ≡ true → Ok s ≡ memory_bytes g.u g.w' g.wide) → Means asked r b
+        go true e i j = as_bytes (sym e) (i refl) (j refl) x z k
+        go false e i j = without (given address') (given size') (sym e) k
+
+    -- A field that is laid out, where the call takes it.
+    pub laid-out : {x : returned.Result MemoryBytes ℕ} (v w : ℕ) → Field-bytes x v w → m ≡ true → x ≡ memory_bytes v w g.wide
+    laid-out v w k e = k ∙ ap (λ (y : Bool). cond y (memory_bytes v w g.wide) (Ok no_bytes)) e

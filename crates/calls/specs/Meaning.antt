@@ -10,10 +10,13 @@ use Rattle.exchange.specs.Meaning.{form_of, answer_of, option_of, timed}
 use Rattle.exchange.specs.Places.{Inside, InsideOutcome}
 use Rattle.exchange.specs.States.{no_place}
 use Rattle.wire.specs.declared.MemoryBytes.{MemoryBytes}
-use Rattle.wire.specs.declared.refusal.Refusal.{Refusal}
 use Rattle.exchange.specs.declared.types.Outcome.TheVariants.{Refused}
 use Rattle.exchange.specs.declared.types.Channel.{Channel}
 use Rattle.exchange.specs.declared.types.Timing.{Timing}
+use Rattle.std.specs.Prelude as code
+use Rattle.std.specs.Prelude.{Some, None}
+use Rattle.requests.specs.Prepared.{Written, pieces_of}
+use Rattle.requests.specs.declared.Prepared.{Prepared}
 use Rattle.calls.specs.declared.Ask.{Ask}
 use Rattle.calls.specs.declared.Answered.{Answered}
 
@@ -48,10 +51,10 @@ result_of replies r buffer = record {
   buffer = buffer;
 }
 
-abbrev pub refused_of : Timing → Refusal → Answered
-refused_of session r = record {
+abbrev pub refused_of : Timing → ℕ → Answered
+refused_of session n = record {
   answer = record {
-    outcome = Refused r;
+    outcome = Refused n;
     time = 0;
     events = 0;
     notices = 0;
@@ -76,6 +79,11 @@ is_refused (transport n) = false
 is_refused (fault f) = false
 is_refused (refused n) = true
 is_refused pending_limit = false
+
+-- What writing a request leaves, of the pieces that a call lends; without one the buffer stays.
+abbrev pub Writes : code.Option Prepared → List ℕ → List ℕ → List ℕ → List ℕ → List ℕ → Type 0
+Writes None a s d before after = after ≡ before
+Writes (Some p) a s d before after = (done : Bool) × Written (pieces_of p a s d) before done after
 
 -- The call's result is r, with this in the request buffer afterwards. The places lie in the lent reply bytes, so their lengths are determined too.
 pub record Called (strict : Bool) (w : Setting) (c : rules.Call) (l : Lent) (r : Answered) (buffer : List ℕ) : Type 0 where

@@ -1,19 +1,19 @@
 // A whole call, by value: the core that all named functions share.
 #![tactic(auto)]
 
-ghost use Rattle.std.specs.Prelude.{cond, [], ◌≡◌, Ok};
+ghost use Rattle.std.specs.Prelude.{ℕ, cond, List, [], ◌≡◌, Ok, length};
 ghost use Rattle.wire.specs.Memory.{memory_bytes};
-ghost use Rattle.wire.specs.Refusing.{numbered};
+ghost use Rattle.wire.specs.Refusing.{refusal_number, numbered};
 ghost use Rattle.exchange.specs.Meaning.{outcome_of};
 ghost use Rattle.rules.specs.Calls.{alfid};
 ghost use Rattle.requests.specs.Meaning.{call_from, call_of};
 ghost use Rattle.requests.specs.Rows.{takes_memory};
-ghost use Rattle.calls.specs.Meaning.{setting_of, lent_of, refused_of, is_refused, no_bytes, Called};
+ghost use Rattle.calls.specs.Meaning.{setting_of, lent_of, refused_of, is_refused, no_bytes, Called, Writes};
 ghost use Rattle.calls.specs.Concluded.{Rechecked, Concluded};
 
 use exchange::types::{Answer, Asked, Channel, Outcome, Place, Timing};
-use requests::Call;
 use requests::rows::{Takes, row_of};
+use requests::{Call, Prepared};
 use wire::refusal::Refusal;
 use wire::{MemoryBytes, memory_bytes};
 
@@ -40,10 +40,10 @@ pub struct Answered {
 
 // "Refused: the number, time and counts 0, all buffers and timing untouched."
 fn refused(session: Timing, refusal: Refusal) -> Answered
-    ensures { result ≡ refused_of session refusal }
+    ensures { result ≡ refused_of session (refusal_number refusal) }
 {
     let answer = Answer {
-        outcome: Outcome::Refused(refusal),
+        outcome: Outcome::Refused(u8::from(refusal)),
         time: 0,
         events: 0,
         notices: 0,
@@ -130,7 +130,75 @@ pub fn is_refused(outcome: Outcome) -> bool
     }
 }
 
-// The whole call. Refusals 1 to 9 come first, then the exchange with refusal 10; the request is written once nothing can refuse it.
+// What a call comes to, and the request that is then to be written; none is where it is refused.
+#[derive(Clone, Copy)]
+struct Decided {
+    answered: Answered,
+    request: Option<Prepared>,
+}
+
+// Refusals 1 to 9 come first, then the exchange with refusal 10. Nothing is written yet: `room` is the request buffer's length.
+fn decide(
+    session: Timing,
+    ask: Ask,
+    room: usize,
+    address: &[u8],
+    size: &[u8],
+    data: &[u8],
+    events: &[u8],
+    replies: &[u8],
+) -> Decided
+    ensures { (before after : List ℕ) → length before ≡ room → Writes result.request address.now size.now «data».now before after →
+        Called ask.strict (setting_of ask session) (call_of ask.call address.now size.now «data».now)
+        (lent_of ask.channel before events.now replies.now) result.answered after }
+{
+    let prepared = match requests::prepare(ask.call, ask.quiet, address, size, data, room) {
+        Ok(prepared) => prepared,
+        Err(refusal) => {
+            return Decided {
+                answered: refused(session, refusal),
+                request: None,
+            };
+        }
+    };
+    let asked = Asked {
+        sid: prepared.sid,
+        sub: prepared.sub,
+        timing: session,
+        limit: ask.limit,
+    };
+    let heard = exchange::exchange(ask.strict, asked, ask.overall, ask.channel, events, replies);
+    if is_refused(heard.outcome) {
+        return Decided {
+            answered: refused(session, Refusal::Events),
+            request: None,
+        };
+    }
+    Decided {
+        answered: concluded(session, ask, prepared.length, address, size, replies, heard),
+        request: Some(prepared),
+    }
+}
+
+// The answer of a call that nobody sends, as of a log: what `run` answers that is lent a request buffer of so many bytes. There is none, on the stack
+// neither.
+pub fn unsent(
+    session: Timing,
+    ask: Ask,
+    room: usize,
+    address: &[u8],
+    size: &[u8],
+    data: &[u8],
+    events: &[u8],
+    replies: &[u8],
+) -> Answered
+    ensures { (before : List ℕ) → length before ≡ room → (after : List ℕ) × Called ask.strict (setting_of ask session)
+        (call_of ask.call address.now size.now «data».now) (lent_of ask.channel before events.now replies.now) result after }
+{
+    decide(session, ask, room, address, size, data, events, replies).answered
+}
+
+// The whole call; the request is written once nothing can refuse it.
 pub fn run(
     session: Timing,
     ask: Ask,
@@ -145,31 +213,16 @@ pub fn run(
         (call_of ask.call address.now size.now «data».now)
         (lent_of ask.channel request.old events.now replies.now) result request.new }
 {
-    let prepared = match requests::prepare(
-        ask.call,
-        ask.quiet,
-        address,
-        size,
-        data,
-        request.len(),
-    ) {
-        Ok(prepared) => prepared,
-        Err(refusal) => return refused(session, refusal),
-    };
-    let asked = Asked {
-        sid: prepared.sid,
-        sub: prepared.sub,
-        timing: session,
-        limit: ask.limit,
-    };
-    let heard = exchange::exchange(ask.strict, asked, ask.overall, ask.channel, events, replies);
-    if is_refused(heard.outcome) {
-        return refused(session, Refusal::Events);
-    }
-    let answered = concluded(session, ask, prepared.length, address, size, replies, heard);
+    let room = request.len();
+    let decided = decide(session, ask, room, address, size, data, events, replies);
     // last, since the checks' values and the writing's are then not kept at once, which takes less of the stack
-    requests::write(request, prepared, address, size, data);
-    answered
+    match decided.request {
+        Some(prepared) => {
+            requests::write(request, prepared, address, size, data);
+        }
+        None => {}
+    }
+    decided.answered
 }
 
 // Calls 5, 6, 11 and 12.

@@ -1,15 +1,15 @@
 -- What the contracts come to for a call that is not refused and a reply that was a positive: `rules`' definitions. And the data lies inside the reply.
-use Prim.Native.Nat.{ℕ, ◌+◌, ◌^◌, ◌≤◌}
+use Prim.Native.Nat.{ℕ, ◌+◌, ◌-◌, ◌*◌, ◌/◌, ◌%◌, ◌^◌, ◌≤◌}
 use native.Mathlib.Omega.{arith}
 use mathlib.Core.Bool.{Bool, true, false, cond}
 use mathlib.Core.List.{List, []}
 use mathlib.Core.Option.{Option, none, some}
-use mathlib.Core.Path.{◌≡◌, refl, ◌∙◌}
+use mathlib.Core.Path.{◌≡◌, refl, sym, subst, ◌∙◌}
 use borrow.Author.Tests.{le-leb, leb-true, lt-ltb}
-use lib.Dec.{leb}
+use lib.Dec.{eqb, leb}
 use lib.ListN.{length, take, drop, length-take, length-drop}
 use lib.Seq.{take_all}
-use Rattle.rules.specs.After.{service_checks, handed, first, checked, number_of}
+use Rattle.rules.specs.After.{length_bytes, service_checks, handed, first, checked, number_of}
 use Rattle.rules.specs.Answers as rules
 use Rattle.rules.specs.Answers.{Part, part, behind, positive, suppressed, negative, timeout, pending_limit, disconnected, transport, fault, refused, if_positive}
 use Rattle.rules.specs.Calls as calls
@@ -19,6 +19,7 @@ use Rattle.rules.proofs.Inside.{data-inside, number_fits}
 use Rattle.rules.proofs.Judging.{Pass, both, judge-ind}
 use Rattle.exchange.specs.declared.types.Place.{Place}
 use Rattle.exchange.specs.declared.types.Outcome.{Outcome}
+use Rattle.exchange.specs.declared.types.Outcome.TheVariants.{PositiveResponse}
 use Rattle.exchange.specs.Meaning.{part_of, outcome_of}
 use Rattle.exchange.proofs.Placing.{part-inside}
 use Rattle.requests.specs.declared.Data.TheVariants.{Absent, Present}
@@ -87,6 +88,40 @@ module _ (at : ℕ) (r : List ℕ) where
   cut : (n k : ℕ) → Within (first n (behind k (part at r)))
   cut n k = record { from = omega arith; to = λ h. omega (arith, length-take n (drop k r), length-drop k r) }
 
+  handed-within : (c : calls.Call) → Within (handed c (part at r))
+  handed-within (request sid sub x) = left (head sub)
+  handed-within (session sub) = cut (cond (eqb (length (drop 2 r)) 4) 4 0) 2
+  handed-within (reset sub) = cut (cond (eqb (length (drop 2 r)) 1) 1 0) 2
+  handed-within (security sub x) = go (eqb (sub % 2) 1)
+    where
+      go : (odd : Bool) → Within (cond odd (behind 2 (part at r)) (first 0 (behind 2 (part at r))))
+      go true = left 2
+      go false = cut 0 2
+  handed-within tester_present = cut 0 2
+  handed-within (read_memory a s) = left 1
+  handed-within (write_memory a s x) = left 1
+  handed-within (read_identifier id) = left 3
+  handed-within (write_identifier id x) = cut 0 3
+  handed-within (fault_count mask) = cut 4 2
+  handed-within (routine sub id x) = left 4
+  handed-within (download c e a s) = cut (length_bytes r) 2
+  handed-within (upload c e a s) = cut (length_bytes r) 2
+  handed-within (transfer counter x) = left 2
+  handed-within (transfer_exit x) = left 1
+  handed-within (fault_list mask) = cut ((length (drop 2 r) - 1) / 4 * 4 + 1) 2
+
+-- A positive's data lies between two indices.
+abbrev Lies : ℕ → ℕ → rules.Outcome → Type 0
+Lies from to (positive d) = (from ≤ d.at) × (d.at + length d.bytes ≤ to)
+Lies from to suppressed = Unit {0}
+Lies from to (negative n) = Unit {0}
+Lies from to timeout = Unit {0}
+Lies from to disconnected = Unit {0}
+Lies from to (transport n) = Unit {0}
+Lies from to (fault f) = Unit {0}
+Lies from to (refused n) = Unit {0}
+Lies from to pending_limit = Unit {0}
+
 -- The reply at a place, with the SID and the sub-function that a positive has.
 module _ (strict quiet : Bool) (l : List ℕ) (place : Place) (c : calls.Call)
     (headed : head (with_bit7 quiet (sub_of c)) ≤ length (part_of l place).bytes) where
@@ -107,6 +142,14 @@ module _ (strict quiet : Bool) (l : List ℕ) (place : Place) (c : calls.Call)
       judge-ind (λ o. answered l o ≡ o) fault (service_checks strict c (part_of l place).bytes) (positive (handed c (part_of l place))) (λ f. refl)
       (λ p. rw (le-leb (handed c (part_of l place)).at (length l) (omega (arith, begins p, reply-inside))))
 
+  checked-lies : Lies place.at (place.at + length (part_of l place).bytes) (checked strict c (part_of l place))
+  unfolding checked
+  checked-lies =
+      let within = handed-within place.at (part_of l place).bytes c in
+      judge-ind (Lies place.at (place.at + length (part_of l place).bytes)) fault
+      (service_checks strict c (part_of l place).bytes) (positive (handed c (part_of l place))) (λ f. tt)
+      (λ p. (within.from, within.to (begins p)))
+
 module _ (strict quiet : Bool) (c : Call) (a s d l : List ℕ) (place : Place) (sent : Pass (arguments (call_of c a s d)))
     (headed : head (with_bit7 quiet (sub_of (call_of c a s d))) ≤ length (part_of l place).bytes) where
   -- What `check` answers is what `rules` says of the reply.
@@ -115,6 +158,14 @@ module _ (strict quiet : Bool) (c : Call) (a s d l : List ℕ) (place : Place) (
       x.means ∙
       rw (checked-beside strict (take 15 a) (take 15 s) d c (part_of l place), as-sent c a s d sent)
       (as-checked strict quiet l place (call_of c a s d) headed)
+
+  -- The place of its data lies inside the reply's.
+  pub data-in-place : {p : Place} → Checked strict c a s l place (PositiveResponse p)
+      → (place.at ≤ p.at) × (p.at + p.len ≤ place.at + place.len)
+  data-in-place {p} x =
+      let found = checked-lies strict quiet l place (call_of c a s d) headed in
+      let lies = subst (λ (o : rules.Outcome). Lies place.at (place.at + length (part_of l place).bytes) o) (sym (check-is x)) found in
+      (lies.0, omega (arith, x.inside, length-take p.len (drop p.at l), length-drop p.at l, length-take place.len (drop place.at l)))
 
 -- The number of what is answered in the end fits, so that `number` is `rules`'. o: what the exchange says of the reply p.
 pub number-fitting : (strict : Bool) (c : calls.Call) (o : rules.Outcome) (p : Part)

@@ -3,11 +3,14 @@ use Prim.Native.Nat.{ℕ}
 use native.Mathlib.Omega.{arith}
 use mathlib.Core.Bool.{true, false}
 use mathlib.Core.Path.{◌≡◌}
-use borrow.Author.Tests.{eqb-true, eqb-false, ltb-true, lt-ltb, le-ltb, lt-leb}
+use borrow.Author.Tests.{eqb-true, eqb-false, ltb-true, ltb-false, lt-ltb, le-ltb, le-leb, lt-leb}
 use lib.Dec.{leb, ltb, eqb}
 
 pub less : (a b : ℕ) → ltb b a ≡ true → leb a b ≡ false
 less a b e = lt-leb a b (ltb-true b a e)
+
+pub not-less : (a b : ℕ) → ltb b a ≡ false → leb a b ≡ true
+not-less a b e = le-leb a b (ltb-false b a e)
 
 pub zero : (n : ℕ) → eqb n 0 ≡ true → ltb 0 n ≡ false
 zero n e = le-ltb 0 n (omega (arith, eqb-true n 0 e))

@@ -13,7 +13,6 @@ use Rattle.rules.specs.Answers as rules
 use Rattle.rules.specs.Answers.{Part, nowhere, deviation, deviation8, bad_length, overflow, positive, suppressed, negative, timeout, pending_limit, disconnected, transport, fault, refused}
 use Rattle.rules.specs.Events.{Entry}
 use Rattle.rules.specs.Exchange as exchange
-use Rattle.wire.proofs.Refusals.{refusal_of, refusal-back}
 use Rattle.exchange.specs.declared.error.ProtocolDeviation.{ProtocolDeviation}
 use Rattle.exchange.specs.declared.error.ProtocolDeviation.TheVariants.{InvalidServiceId, InvalidRequestServiceId, InvalidSubFunction}
 use Rattle.exchange.specs.declared.error.ProtocolDeviation.TheVariants.{UnexpectedPositiveResponse, InvalidDataIdentifier}
@@ -79,7 +78,7 @@ outcome_from timeout = outcome.Timeout
 outcome_from disconnected = outcome.Disconnected
 outcome_from (transport n) = outcome.Transport n
 outcome_from (fault f) = outcome.Fault (fault_from f)
-outcome_from (refused n) = outcome.Refused (refusal_of n)
+outcome_from (refused n) = outcome.Refused n
 outcome_from pending_limit = outcome.PendingLimit
 
 abbrev pub step_from : exchange.Step → Step
@@ -144,7 +143,7 @@ module _ (l : List ℕ) where
   outcome-back outcome.Disconnected h = refl
   outcome-back (outcome.Transport n) h = refl
   outcome-back (outcome.Fault f) h = ap outcome.Fault (fault-back f)
-  outcome-back (outcome.Refused r) h = ap outcome.Refused (refusal-back r)
+  outcome-back (outcome.Refused n) h = refl
   outcome-back outcome.PendingLimit h = refl
 
   step_back : (s : Step) → InsideStep l s → step_from (step_of l s) ≡ s

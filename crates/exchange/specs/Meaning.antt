@@ -9,7 +9,6 @@ use Rattle.rules.specs.Events as events
 use Rattle.rules.specs.Events.{Entry, foreign}
 use Rattle.rules.specs.Exchange as exchange
 use Rattle.rules.specs.Settings as settings
-use Rattle.wire.specs.Refusing.{refusal_number}
 use Rattle.exchange.specs.declared.error.ProtocolDeviation.{ProtocolDeviation}
 use Rattle.exchange.specs.declared.error.ProtocolDeviation.TheVariants as protocol
 use Rattle.exchange.specs.declared.error.Fault.{Fault}
@@ -91,7 +90,7 @@ outcome_of replies outcome.Timeout = timeout
 outcome_of replies outcome.Disconnected = disconnected
 outcome_of replies (outcome.Transport n) = transport n
 outcome_of replies (outcome.Fault f) = fault (fault_of f)
-outcome_of replies (outcome.Refused r) = refused (refusal_number r)
+outcome_of replies (outcome.Refused n) = refused n
 outcome_of replies outcome.PendingLimit = pending_limit
 
 abbrev pub step_of : List ℕ → Step → exchange.Step

@@ -29,7 +29,7 @@ InsideOutcome replies outcome.Timeout = Unit {0}
 InsideOutcome replies outcome.Disconnected = Unit {0}
 InsideOutcome replies (outcome.Transport n) = Unit {0}
 InsideOutcome replies (outcome.Fault f) = Unit {0}
-InsideOutcome replies (outcome.Refused r) = Unit {0}
+InsideOutcome replies (outcome.Refused n) = Unit {0}
 InsideOutcome replies outcome.PendingLimit = Unit {0}
 
 abbrev pub InsideStep : List ℕ → Step → Type 0

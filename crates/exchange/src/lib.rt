@@ -331,7 +331,7 @@ pub fn exchange(
     let form = channel.form;
     if !within_limits(form, events, replies) {
         return Answer {
-            outcome: Outcome::Refused(Refusal::Events),
+            outcome: Outcome::Refused(u8::from(Refusal::Events)),
             time: 0,
             events: 0,
             notices: 0,

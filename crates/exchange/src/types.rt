@@ -1,6 +1,5 @@
 // What an exchange is asked, what it reads, and what it answers: plain data by value, with places into the lent reply bytes.
 use crate::error::Fault;
-use wire::refusal::Refusal;
 
 // A part of the lent reply bytes.
 #[derive(Clone, Copy)]
@@ -65,7 +64,8 @@ pub enum Outcome {
     Disconnected,
     Transport(u16),
     Fault(Fault),
-    Refused(Refusal),
+    // its number: a `Refusal` would take fewer outcomes of whoever hands one in
+    Refused(u8),
     PendingLimit,
 }
 

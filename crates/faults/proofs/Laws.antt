@@ -4,7 +4,7 @@ use Prim.Native.Nat.{ℕ, zero, suc, ◌+◌, ◌-◌, ◌*◌, ◌≤◌, ◌<�
 use native.Mathlib.Omega.{arith}
 use native.Mathlib.Numerals.{add-one}
 use mathlib.Core.Bool.{Bool, true, false, cond}
-use mathlib.Core.Path.{◌≡◌}
+use mathlib.Core.Path.{◌≡◌, refl}
 use mathlib.Core.List.{List, ◌∷◌}
 use lib.ListN.{length, get_or}
 use Rattle.rules.specs.Answers.{Part}
@@ -21,6 +21,16 @@ length-of : (b : Bool) (x : Part) (l : List Part) → length (cond b (x ∷ l) l
 length-of true x l = omega arith
 length-of false x l = omega arith
 
+found_here : (b : Bool) (x : Part) (l : List Part) (k : ℕ) → k < bool_byte b → found_of (cond b (x ∷ l) l) k ≡ Some x.at
+found_here true x l zero h = refl
+found_here true x l (suc k) h = absurd (omega arith)
+found_here false x l k h = absurd (omega arith)
+
+found-later : (b : Bool) (x : Part) (l : List Part) (k : ℕ) → bool_byte b ≤ k → found_of (cond b (x ∷ l) l) k ≡ found_of l (k - bool_byte b)
+found-later true x l zero h = absurd (omega arith)
+found-later true x l (suc k) h = let z : suc k - 1 ≡ k = omega arith in rw z
+found-later false x l k h = let z : k - 0 ≡ k = omega arith in rw z
+
 pub one-most : (b : Bool) → bool_byte b ≤ 1
 one-most true = omega arith
 one-most false = omega arith
@@ -35,13 +45,9 @@ module _ (mask : ℕ) (bs : List ℕ) (n i : ℕ) (more : i < n) where
   pub count_turn : {hit : Bool} → hit ≡ shares mask status → length (left-of mask bs n i) ≡ bool_byte hit + length (left-of mask bs n (i + 1))
   count_turn is = rw (turn, is) (length-of (shares mask status) (record_at bs i) (left-of mask bs n (i + 1)))
 
-  pub passed : false ≡ shares mask status → (k : ℕ) → found_of (left-of mask bs n i) k ≡ found_of (left-of mask bs n (i + 1)) k
-  passed is k = rw (turn, ← is)
+  module _ {hit : Bool} (is : hit ≡ shares mask status) where
+    pub here : (k : ℕ) → k < bool_byte hit → found_of (left-of mask bs n i) k ≡ Some (i * 4)
+    here k h = rw (turn, ← is) (found_here hit (record_at bs i) (left-of mask bs n (i + 1)) k h)
 
-  module _ (is : true ≡ shares mask status) where
-    pub here : found_of (left-of mask bs n i) 0 ≡ Some (i * 4)
-    here = rw (turn, ← is)
-
-    pub later : (k : ℕ) → 0 < k → found_of (left-of mask bs n i) k ≡ found_of (left-of mask bs n (i + 1)) (k - 1)
-    later zero h = absurd (omega arith)
-    later (suc k) h = let z : suc k - 1 ≡ k = omega arith in rw (turn, ← is, z)
+    pub later : (k : ℕ) → bool_byte hit ≤ k → found_of (left-of mask bs n i) k ≡ found_of (left-of mask bs n (i + 1)) (k - bool_byte hit)
+    later k h = rw (turn, ← is) (found-later hit (record_at bs i) (left-of mask bs n (i + 1)) k h)

@@ -44,10 +44,9 @@ same-outcome (Ok t) (Err (Line b)) out log out' log' k h e = never (cc)
 same-outcome (Ok t) (Err (Text b)) out log out' log' k h e = never (cc)
 same-outcome (Err (Line a)) (Ok u) out log out' log' k h e = never (cc)
 same-outcome (Err (Line a)) (Err (Line b)) out log out' log' k h e =
-    let refusals : refusal_number a.refusal ≡ refusal_number b.refusal = cc in
+    let refusals : a.refusal ≡ b.refusal = cc in
     let lines : a.line ≡ b.line = cc in
-    let same = same-refusal a.refusal b.refusal refusals in
-    λ i. Err (Line (record { refusal = same i; line = lines i }))
+    λ i. Err (Line (record { refusal = refusals i; line = lines i }))
 same-outcome (Err (Line a)) (Err (Text b)) out log out' log' k h e = never (cc)
 same-outcome (Err (Text a)) (Ok u) out log out' log' k h e = never (cc)
 same-outcome (Err (Text a)) (Err (Line b)) out log out' log' k h e = never (cc)

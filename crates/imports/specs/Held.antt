@@ -54,7 +54,7 @@ kept_of i lent out =
 
 abbrev pub going_of : Result Import RefusedLine → Lent → List ℕ → Going
 going_of (Ok i) lent out = going (kept_of i lent out)
-going_of (Err r) lent out = refused_at (refusal_number r.refusal) r.line
+going_of (Err r) lent out = refused_at r.refusal r.line
 
 abbrev pub stream_of : Stream → Lent → List ℕ → kept.Stream
 stream_of s lent out = kept.stream s.reader (going_of s.import lent out)
@@ -76,7 +76,7 @@ Outcome = Result Told ImportError
 
 abbrev pub written_of : Outcome → List ℕ → List ℕ → Written
 written_of (Ok t) out log = lines (take t.lines out) t.left_out (held_log t.events t.replies log)
-written_of (Err (Line r)) out log = refused_line (refusal_number r.refusal) r.line
+written_of (Err (Line r)) out log = refused_line r.refusal r.line
 written_of (Err (Text r)) out log = refused (refusal_number r)
 
 -- The lines, the events and the replies stand inside their buffers.

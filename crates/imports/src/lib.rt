@@ -7,7 +7,7 @@ ghost use Rattle.isotp.specs.Held.{given_of};
 ghost use Rattle.candump.specs.Reading.{line_of};
 ghost use Rattle.importing.specs.Import.{next};
 ghost use Rattle.importing.specs.Kept.{note_drop, note_request, note_reply, note_given, fits_in, log_reply, log_given};
-ghost use Rattle.importing.specs.Kept.{framed, step, read_line, bytes, lines, ended};
+ghost use Rattle.importing.specs.Kept.{framed, step, bytes, lines, ended};
 ghost use Rattle.imports.specs.declared.ImportError.TheVariants.{Line};
 ghost use Rattle.imports.specs.Held.{start_of, message_of, tally_of, log_in, log_of, kept_of, going_of};
 ghost use Rattle.imports.specs.Held.{stream_of, settled_in, Begins, Tallied, Finished};
@@ -61,10 +61,10 @@ pub struct Import {
     pub tally: Tally,
 }
 
-// The line that is refused, with 14 or 16: nothing behind it is read.
+// The line that is refused, with 14 or 16: nothing behind it is read. The refusal's number: a `Refusal` would take fewer states of whoever hands one in.
 #[derive(Clone, Copy)]
 pub struct RefusedLine {
-    pub refusal: Refusal,
+    pub refusal: u8,
     pub line: u64,
 }
 
@@ -327,11 +327,11 @@ fn step(
     match found {
         Found::Blank => Ok(passed(i, i.time)),
         Found::Unreadable => Err(RefusedLine {
-            refusal: Refusal::UnreadableLine,
+            refusal: u8::from(Refusal::UnreadableLine),
             line: next(i.line),
         }),
         Found::Other(time) | Found::Frame(time, _, _) if time < i.time => Err(RefusedLine {
-            refusal: Refusal::TimeGoesBack,
+            refusal: u8::from(Refusal::TimeGoesBack),
             line: next(i.line),
         }),
         Found::Other(time) => Ok(passed(i, time)),
@@ -367,16 +367,17 @@ pub fn begin() -> Stream
 
 // The line under way ends here.
 fn line_ends(
-    s: Stream,
+    import: Result<Import, RefusedLine>,
+    found: Found,
+    bytes: [u8; 8],
     ids: Identifiers,
     lent: &mut Lent,
     out: &mut [u8],
 ) -> Result<Import, RefusedLine>
     ensures { going_of result lent.new out.new ≡
-        step (length out.old) ids.ask ids.answer (going_of s.import lent.old out.old) (read_line s.reader) }
+        step (length out.old) ids.ask ids.answer (going_of import lent.old out.old) (line_of found bytes) }
 {
-    let found = candump::ended(s.reader);
-    step(s.import, found, &s.reader.bytes, ids, lent, out)
+    step(import, found, &bytes, ids, lent, out)
 }
 
 // The next bytes of a text. Messages under way stand in `lent`, and so do the events for a log and their replies; the lines to be written stand at
@@ -390,7 +391,8 @@ pub fn read_on(s: Stream, chunk: &[u8], ids: Identifiers, lent: &mut Lent, out: 
     let mut import = s.import;
     for &c in chunk {
         if c == b'\n' {
-            import = line_ends(Stream { reader, import }, ids, lent, out);
+            let found = candump::ended(reader);
+            import = line_ends(import, found, reader.bytes, ids, lent, out);
             reader = candump::begin();
         } else {
             reader = candump::next(reader, c);
@@ -428,7 +430,8 @@ pub fn finish(
 ) -> Result<Told, ImportError>
     ensures { Finished (ended (length out.old) ids.ask ids.answer (stream_of s lent.old out.old)) result out.new lent.new.log }
 {
-    let tally = line_ends(s, ids, lent, out)?.tally;
+    let found = candump::ended(s.reader);
+    let tally = line_ends(s.import, found, s.reader.bytes, ids, lent, out)?.tally;
     if tally.start.is_none() {
         return Err(ImportError::Text(Refusal::NoRequest));
     }

@@ -1,13 +1,14 @@
 -- From what was read to what is written.
 use Prim.Native.Nat.{ℕ, ◌-◌}
 use native.Mathlib.Omega.{arith}
-use mathlib.Core.Bool.{Bool, true, false}
+use mathlib.Core.Bool.{Bool, true, false, not}
 use mathlib.Core.List.{List, [], ◌++◌}
 use mathlib.Core.Path.{◌≡◌, refl, sym, ◌∙◌, ap, ap₂, subst}
 use lib.ListN.{take}
 use Rattle.rules.specs.Events.{plain, Entry, entries}
 use Rattle.rules.specs.Writing.{put_entries}
 use Rattle.rules.proofs.Writing.{writing}
+use Rattle.candump.specs.Reading.{hopeless}
 use Rattle.importing.specs.Import as import
 use Rattle.importing.specs.Import.{Imported, imported}
 use Rattle.importing.specs.Kept.{Stream, Written, bytes, settled, ended, start}
@@ -37,6 +38,11 @@ pub none_came : (room ask answer : ℕ) (C : List ℕ → Type 0) {s : Stream} �
 unfolding bytes
 none_came room ask answer C e h = (record { text = []; is = e }, h)
 
+-- Of nothing that was read nothing is settled.
+pub unsettled : {s : Stream} → s ≡ start → settled s ≡ false
+unfolding hopeless
+unsettled e = ap settled e
+
 pub more-came : (room ask answer : ℕ) (C : List ℕ → Type 0) {a b c : Stream} (p : Came room ask answer a b) (q : Came room ask answer b c) →
     C (p.text ++ q.text) → (r : Came room ask answer a c) × C r.text
 more-came room ask answer C {a} p q h = (
@@ -53,6 +59,11 @@ pub turn-came : (room n ask answer : ℕ) (x y z : code.Option (List ℕ)) {a b 
 turn-came room n ask answer x y z {b = b} {c = c} e p q =
     let more : (m : Came room ask answer b c) × Consumes y z m.text = subst (λ (k : ℕ). (m : Came k ask answer b c) × Consumes y z m.text) e (q.0.came, q.1) in
     more-came room ask answer (Consumes x z) p.0 more.0 (Consumes-trans _ _ _ _ _ p.1 more.1)
+
+-- What is not told as the end is settled.
+pub not-so : {ended s : Bool} → ended ≡ not s → ended ≡ false → s ≡ true
+not-so {s = true} e h = refl
+not-so {s = false} e h = sym h ∙ e
 
 -- The text was read to its end, or nothing behind what was read of it changes anything.
 pub all-came : (room ask answer : ℕ) (t : Bool) (C : List ℕ → Type 0) {s : Stream} {r : Outcome} {out log : List ℕ} (p : Came room ask answer start s) →

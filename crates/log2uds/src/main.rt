@@ -3,8 +3,7 @@
 // it with an error.
 #![tactic(auto)]
 
-ghost use Rattle.std.specs.Prelude.{◌+◌, ◌≤◌, true, false, ◌++◌, [], ◌≡◌, Err, IfOk, is_none, length, take};
-ghost use Rattle.std.specs.Option.{unwrap_or};
+ghost use Rattle.std.specs.Prelude.{◌+◌, ◌≤◌, true, not, ◌++◌, [], ◌≡◌, Err, IfOk, length, take};
 ghost use Rattle.std.specs.Io.KnownBytes.{Consumes};
 ghost use Rattle.importing.specs.Kept.{start};
 ghost use Rattle.imports.specs.Held.{stream_of, settled_in, written_of};
@@ -32,7 +31,7 @@ fn put_error(error: ImportError, out: &mut [u8]) -> usize
     match error {
         ImportError::Text(refusal) => put_item(out, 0, b"refused", u8::from(refusal) as u64, b""),
         ImportError::Line(refused) => {
-            let n = put_counted(out, 0, b"refused", u8::from(refused.refusal) as u64);
+            let n = put_counted(out, 0, b"refused", refused.refusal as u64);
             put_item(out, n, b"", refused.line, b"")
         }
     }
@@ -149,31 +148,31 @@ fn put_capture(
     }
 }
 
-// One read: what was read of the text then, or None where it has ended.
+// How much of a text was read, and whether that is all of it.
+#[derive(Clone, Copy)]
+struct Reached {
+    stream: Stream,
+    ended: bool,
+}
+
+// One read. No Option: the end is told beside what was read, so that a read can't lose what it took.
 fn read_more<R: Read>(
     text: &mut R,
     s: Stream,
     ids: Identifiers,
     lent: &mut Lent,
     out: &mut [u8],
-) -> io::Result<Option<Stream>>
-    ensures { IfOk result (λ more. (t : Turned (length out.old) ids.ask ids.answer (stream_of s lent.old out.old)
-        (stream_of (unwrap_or more s) lent.new out.new) (is_none more)) ×
+) -> io::Result<Reached>
+    ensures { IfOk result (λ r. (t : Turned (length out.old) ids.ask ids.answer (stream_of s lent.old out.old)
+        (stream_of r.stream lent.new out.new) r.ended) ×
         Consumes (R.remaining text.old) (R.remaining text.new) t.came.text) }
 {
     let mut chunk = [0u8; 65536];
     let n = read_full(text, &mut chunk)?;
-    if n == 0 {
-        return Ok(None);
-    }
-    Ok(Some(imports::read_on(s, part(&chunk, 0, n), ids, lent, out)))
-}
-
-// How much of a text was read, and whether that is all of it.
-#[derive(Clone, Copy)]
-struct Reached {
-    stream: Stream,
-    ended: bool,
+    Ok(Reached {
+        stream: imports::read_on(s, part(&chunk, 0, n), ids, lent, out),
+        ended: n == 0,
+    })
 }
 
 // All of the text, or so much of it that nothing behind it changes what comes of it. A proved loop has to end, and nothing says that the input does:
@@ -186,19 +185,21 @@ fn read_text<R: Read>(
 ) -> io::Result<Reached>
     ensures came { IfOk result (λ r. (c : Came (length out.old) ids.ask ids.answer start (stream_of r.stream lent.new out.new)) ×
         Consumes (R.remaining text.old) (R.remaining text.new) c.text) }
-    ensures stops { IfOk result (λ r. r.ended ≡ false → settled_in r.stream ≡ true) }
+    ensures stops { IfOk result (λ r. r.ended ≡ not (settled_in r.stream)) }
 {
     let mut stream = imports::begin();
     for _ in 0..u64::MAX {
-        let Some(more) = read_more(text, stream, ids, lent, out)? else {
-            break;
-        };
-        stream = more;
-        if imports::settled(stream) {
+        let reached = read_more(text, stream, ids, lent, out)?;
+        stream = reached.stream;
+        let settled = imports::settled(stream);
+        if settled {
             return Ok(Reached {
                 stream,
                 ended: false,
             });
+        }
+        if reached.ended {
+            break;
         }
     }
     Ok(Reached {

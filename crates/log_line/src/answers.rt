@@ -62,16 +62,8 @@ pub fn put_answer(line: &mut [u8], answer: Answer, replies: &[u8]) -> Option<usi
                 reply,
             ),
         },
-        Outcome::Refused(refusal) => {
-            put_line(
-                line,
-                b"refused",
-                time,
-                events,
-                notices,
-                &[u8::from(refusal)],
-                b"",
-            )
+        Outcome::Refused(number) => {
+            put_line(line, b"refused", time, events, notices, &[number], b"")
         }
         Outcome::PendingLimit => put_line(line, b"pendinglimit", time, events, notices, b"", b""),
     }

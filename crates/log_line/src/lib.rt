@@ -30,18 +30,8 @@ pub fn answer_of(log: &[u8]) -> Option<(Header, Answer)>
         star: h.star,
     };
     let ask = ask_of(h)?;
-    // as long as the longest request, so that refusal 9 cannot come up
-    let mut request = [0u8; 4095];
-    let answered = sessions::in_session(
-        session,
-        ask,
-        &mut request,
-        address,
-        size,
-        data,
-        events,
-        replies,
-    );
+    // as much room as the longest request needs, so that refusal 9 cannot come up
+    let answered = calls::unsent(session, ask, 4095, address, size, data, events, replies);
     Some((h, answered.answer))
 }
 

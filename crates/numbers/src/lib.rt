@@ -77,7 +77,7 @@ fn told(outcome: Outcome) -> Values
             Fault::InvalidResponseLength => plain(7, 0),
             Fault::BlockLengthOverflow => plain(8, 0),
         },
-        Outcome::Refused(refusal) => plain(9, u8::from(refusal) as u64),
+        Outcome::Refused(number) => plain(9, number as u64),
         Outcome::PendingLimit => plain(10, 0),
     }
 }

@@ -2,7 +2,7 @@
 // The first fifteen are an answer's. While the engine waits, 11 stands for the outcome, and the deadline, the events read and the notices stand where the answer's time and counts will.
 #![tactic(auto)]
 
-ghost use Rattle.std.specs.Prelude.{◌≡◌, ◌++◌};
+ghost use Rattle.std.specs.Prelude.{◌%◌, ◌≡◌, ◌++◌};
 ghost use Rattle.logs.specs.Layout.{said};
 ghost use Rattle.state_numbers.specs.Kept.{nine, fifteen, header_in, AskedIn, asking_in, engine_in, Told};
 
@@ -16,15 +16,21 @@ use steps::{Begun, Engine, Phase};
 
 pub const WAITING: u64 = 11;
 
+pub fn byte(n: u64) -> u8
+    ensures { result ≡ n % 256 }
+{
+    (n % 256) as u8
+}
+
 // What was asked as a log's header would have it, each number as wide as its field is.
 fn header_in(state: [u64; 28]) -> Header
     ensures { said result ≡ header_in state }
 {
     fields(
-        (state[19] % 256) as u8,
-        (state[20] % 256) as u8,
+        byte(state[19]),
+        byte(state[20]),
         (state[21] % 65536) as u16,
-        (state[22] % 256) as u8,
+        byte(state[22]),
         0,
         0,
         (state[12] % 4294967296) as u32,

@@ -41,10 +41,6 @@ use Rattle.requests.proofs.Refusals as refusing
 use Rattle.requests.proofs.Table.{sid-is, sub_is, sent-sub}
 use Rattle.std.specs.Prelude as returned
 use Rattle.std.specs.Prelude.{Ok, Err}
-use Rattle.wire.specs.Refusing.{refusal_number}
-use Rattle.wire.specs.declared.refusal.Refusal.{Refusal}
-use Rattle.exchange.specs.declared.types.Outcome.{Outcome}
-use Rattle.exchange.specs.declared.types.Outcome.TheVariants as outcome
 use Rattle.calls.specs.Concluded.{Concluded}
 use Rattle.calls.specs.Meaning.{setting_of, lent_of, refused_of, is_refused, Called}
 use Rattle.calls.specs.declared.Ask.{Ask}
@@ -130,18 +126,6 @@ never o h = go (is_refused o) refl
     go true e = absurd (h (refused-test o e))
     go false e = refl
 
--- What the code answers refused is one of the refusals.
-refused-as : (o : Outcome) {n : ℕ} → outcome_of [] o ≡ answers.refused n → (r : Refusal) × (refusal_number r ≡ n)
-refused-as (outcome.PositiveResponse x) e = absurd (let z : ◌≡◌ {A = ℕ} 0 1 = cc in omega arith)
-refused-as outcome.Suppressed e = absurd (let z : ◌≡◌ {A = ℕ} 0 1 = cc in omega arith)
-refused-as (outcome.NegativeResponse x) e = absurd (let z : ◌≡◌ {A = ℕ} 0 1 = cc in omega arith)
-refused-as outcome.Timeout e = absurd (let z : ◌≡◌ {A = ℕ} 0 1 = cc in omega arith)
-refused-as outcome.Disconnected e = absurd (let z : ◌≡◌ {A = ℕ} 0 1 = cc in omega arith)
-refused-as (outcome.Transport x) e = absurd (let z : ◌≡◌ {A = ℕ} 0 1 = cc in omega arith)
-refused-as (outcome.Fault x) e = absurd (let z : ◌≡◌ {A = ℕ} 0 1 = cc in omega arith)
-refused-as (outcome.Refused r) {n} e = (r, cc)
-refused-as outcome.PendingLimit e = absurd (let z : ◌≡◌ {A = ℕ} 0 1 = cc in omega arith)
-
 -- An engine waits, with one state, or has settled.
 abbrev IsWaiting : Phase → Type 0
 IsWaiting (Waiting z) = Unit {0}
@@ -171,8 +155,8 @@ module _ (session : Timing) (ask : Ask) (a s d before : List ℕ) where
   number = refusal_of ask.quiet c (length before)
 
   -- `prepare` refuses it so.
-  abbrev pub Refuses : Refusal → Type 0
-  Refuses r = Err (refusal_number r) ≡ prepared_of ask.call ask.quiet a s d (length before)
+  abbrev pub Refuses : ℕ → Type 0
+  Refuses n = Err n ≡ prepared_of ask.call ask.quiet a s d (length before)
 
   -- What `prepare` says of it where nothing refuses it.
   abbrev p : Prepared
@@ -189,24 +173,18 @@ module _ (session : Timing) (ask : Ask) (a s d before : List ℕ) where
       λ i. record { sid = sid i; sub = sub i; timing = w.timing; limit = w.limit }
 
   -- Refused by its arguments or its size, the engine has settled as the call answers, whatever is lent.
-  pub refused-alike : {e after : _} (r : Refusal) → Refuses r → Begins session ask c before e after → (e.phase ≡ Settled (refused_of session r)) × (after ≡ before)
-  refused-alike {e} {after} r h k =
-      let same = unique {strict = ask.strict} k.called (turned-away (given [] []) r h) in
+  pub refused-alike : {e after : _} (n : ℕ) → Refuses n → Begins session ask c before e after → (e.phase ≡ Settled (refused_of session n)) × (after ≡ before)
+  refused-alike {e} {after} n h k =
+      let same = unique {strict = ask.strict} k.called (turned-away (given [] []) n h) in
       (ap (λ (q : Engine). q.phase) k.engine ∙ ap (λ (q : Answered). (begun_by session ask q).phase) same.0, same.1)
 
   abbrev quietly : Lent
   quietly = lent_of ask.channel before [] []
 
-  -- A number that is not 0 is one of the refusals, which the call answered that hears nothing.
-  pub refuses-so : {e after : _} → (number ≡ 0 → ⊥) → Begins session ask c before e after → (r : Refusal) × Refuses r
-  unfolding call
-  refuses-so {e} {after} h k =
-      let r = refused-as k.unheard.answer.outcome (ap (λ (q : Result). q.answer.outcome) (k.called.means ∙ turned)) in
-      (r.0, ap Err r.1 ∙ sayings (prepared_of ask.call ask.quiet a s d (length before)) refl)
+  -- A number that is not 0 is `prepare`'s refusal.
+  pub refuses-so : {e after : _} → (number ≡ 0 → ⊥) → Begins session ask c before e after → (n : ℕ) × Refuses n
+  refuses-so {e} {after} h k = (number, sayings (prepared_of ask.call ask.quiet a s d (length before)) refl)
     where
-      turned : call ask.strict w c quietly ≡ refuse w quietly number
-      turned = refusing.refused (refuse w quietly) ask.quiet c before quietly.form [] [] _ number refl h
-
       sayings : (x : returned.Result Prepared ℕ) → x ≡ prepared_of ask.call ask.quiet a s d (length before) → Err number ≡ prepared_of ask.call ask.quiet a s d (length before)
       sayings (Ok x) e = absurd (h (none-of-nine ask.call ask.quiet a s d before e))
       sayings (Err n) e = ap Err (sym (refusal_is ask.call ask.quiet a s d (length before) e).0) ∙ e

@@ -6,10 +6,12 @@ use mathlib.Core.Path.{◌≡◌, refl, sym, ◌∙◌, ap}
 use lib.ListN.{length, take, get_or}
 use lib.Seq.{take-suc}
 use Rattle.rules.specs.Lines.{ascii, decimal, hex, spaced}
-use Rattle.exchange.specs.Meaning.{outcome_of}
+use Rattle.exchange.specs.Meaning.{deviation_number, deviation_of, outcome_of}
+use Rattle.exchange.specs.declared.error.ProtocolDeviation.{ProtocolDeviation}
+use Rattle.exchange.specs.declared.error.ProtocolDeviation.TheVariants as protocol
 use Rattle.exchange.specs.declared.types.Outcome.{Outcome}
 use Rattle.exchange.specs.declared.types.Outcome.TheVariants as outcome
-use Rattle.telling.specs.Words.{pairs, timed, judged}
+use Rattle.telling.specs.Words.{pairs, timed, number_of, judged}
 use Rattle.text.specs.Written.{Adds}
 use Rattle.text.proofs.Adding.{both, saying}
 
@@ -21,6 +23,24 @@ pairs-append (x ∷ a) b = ap (λ (l : List ℕ). spaced (hex (x ∷ [])) ++ l) 
 pub pairs_next : (l : List ℕ) (i : ℕ) → i < length l → pairs (take i l) ++ spaced (hex (get_or l i 0 ∷ [])) ≡ pairs (take (i + 1) l)
 pairs_next l i h =
     sym (rw (add-one, take-suc l i 0 h, pairs-append) (ap (λ (x : List ℕ). pairs (take i l) ++ x) (append-nil (spaced (hex (get_or l i 0 ∷ []))))))
+
+-- A deviation's number, as the code counts it.
+pub numbers : (d : ProtocolDeviation) → deviation_number d ≡ number_of (deviation_of d)
+numbers protocol.InvalidServiceId = refl
+numbers protocol.InvalidRequestServiceId = refl
+numbers protocol.InvalidSubFunction = refl
+numbers protocol.UnexpectedPositiveResponse = refl
+numbers protocol.InvalidDataIdentifier = refl
+numbers protocol.InvalidRoutineIdentifier = refl
+numbers protocol.InvalidBlockSequenceCounter = refl
+numbers (protocol.InvalidResponseLength least most) = refl
+numbers protocol.InvalidLengthFormat = refl
+numbers protocol.InvalidLengthFormatIdentifier = refl
+numbers protocol.InvalidMaxNumberOfBlockLength = refl
+numbers protocol.InvalidAddressAndLengthFormatIdentifier = refl
+numbers protocol.InvalidMemoryAddress = refl
+numbers protocol.InvalidMemorySize = refl
+numbers protocol.InvalidMemoryRecordLength = refl
 
 -- The words do not say where the data stands.
 pub judged-anywhere : (l : List ℕ) (o : Outcome) → judged (outcome_of [] o) ≡ judged (outcome_of l o)

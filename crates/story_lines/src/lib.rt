@@ -158,6 +158,17 @@ fn broken(wrong: Fault) -> &'static [u8]
     }
 }
 
+// A deviation's number; 0 and 16 for the two that have none.
+pub fn number_of(wrong: Fault) -> u8
+    ensures { result ≡ number_of (fault_of wrong) }
+{
+    match wrong {
+        Fault::ProtocolDeviation(deviation) => u8::from(deviation),
+        Fault::InvalidResponseLength => 0,
+        Fault::BlockLengthOverflow => 16,
+    }
+}
+
 // What an event is judged to be, where it settles the exchange.
 #[tactic(auto, unfolding(telling::specs::Words::judged, telling::specs::Words::breaks))]
 fn judged(outcome: Outcome) -> &'static [u8]

@@ -19,7 +19,6 @@ use Rattle.rules.specs.Logs.{Header, header_of, flag, address_of, size_of, event
 use Rattle.rules.specs.Refusals.{arguments, refusals}
 use Rattle.rules.specs.Settings.{Setting, Lent}
 use Rattle.rules.proofs.Judging.{judge-ind, pass-append}
-use Rattle.wire.specs.declared.refusal.Refusal.{Refusal}
 use Rattle.exchange.specs.Guarded.{guarded}
 use Rattle.exchange.specs.Meaning.{asked_of, option_of, form_of, outcome_of, answer_of}
 use Rattle.exchange.specs.declared.types.Answer.{Answer}
@@ -75,7 +74,7 @@ not_made (answers.fault f) x y e = absurd (true≢false (sym e))
 not_made (answers.refused n) x y e = refl
 
 -- Which outcome is a refusal.
-pub not-refused : (o : Outcome) → ((r : Refusal) → o ≡ outcome.Refused r → ⊥) → is_refused (outcome_of [] o) ≡ false
+pub not-refused : (o : Outcome) → ((n : ℕ) → o ≡ outcome.Refused n → ⊥) → is_refused (outcome_of [] o) ≡ false
 not-refused (outcome.PositiveResponse p) k = refl
 not-refused outcome.Suppressed k = refl
 not-refused (outcome.NegativeResponse n) k = refl
@@ -83,7 +82,7 @@ not-refused outcome.Timeout k = refl
 not-refused outcome.Disconnected k = refl
 not-refused (outcome.Transport n) k = refl
 not-refused (outcome.Fault f) k = refl
-not-refused (outcome.Refused r) k = absurd (k r refl)
+not-refused (outcome.Refused n) k = absurd (k n refl)
 not-refused outcome.PendingLimit k = refl
 
 -- A refusal does not hang on where a reply stands.

@@ -4,7 +4,6 @@ ghost use Rattle.rules.specs.Exchange as rules;
 ghost use Rattle.rules.specs.Lines.{ascii};
 ghost use Rattle.exchange.specs.Meaning.{answer_of};
 ghost use Rattle.log_call.specs.Asking.{RecordedIn};
-ghost use Rattle.wire.specs.Refusing.{refusal_number};
 ghost use Rattle.telling.specs.Telling.{sound_text};
 ghost use Rattle.telling.specs.Words.{mode, quiet, begins, concludes, declined_by, declined};
 ghost use Rattle.text.specs.Written.{Adds};
@@ -23,7 +22,6 @@ use story_exchange::put_exchange;
 use story_lines::put_shown;
 use text::{append, append_decimal};
 use wire::part;
-use wire::refusal::Refusal;
 
 // What the exchange knows of the request.
 fn asked_by(ask: Ask, session: Timing) -> Asked
@@ -83,21 +81,21 @@ fn put_concludes(text: &mut [u8], at: usize, answer: Answer) -> usize
 }
 
 // What a refusal is about.
-fn about(refusal: Refusal) -> &'static [u8]
-    ensures { result.now ≡ declined_by (refusal_number refusal) }
+fn about(refusal: u8) -> &'static [u8]
+    ensures { result.now ≡ declined_by refusal }
 {
     match refusal {
-        Refusal::Events => b"The call is not made: its list of events breaks a limit, refusal ",
+        10 => b"The call is not made: its list of events breaks a limit, refusal ",
         _ => b"The call is not made: what it asks for is not allowed, refusal ",
     }
 }
 
 // A call that is not made.
-fn put_refusal(text: &mut [u8], refusal: Refusal) -> usize
-    ensures { Adds (declined (refusal_number refusal)) text.old 0 result text.new }
+fn put_refusal(text: &mut [u8], refusal: u8) -> usize
+    ensures { Adds (declined refusal) text.old 0 result text.new }
 {
     let a = append(text, 0, about(refusal));
-    let b = append_decimal(text, a, u8::from(refusal) as u64);
+    let b = append_decimal(text, a, refusal as u64);
     append(text, b, b".\n")
 }
 

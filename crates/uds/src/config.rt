@@ -30,6 +30,10 @@ impl Default for UDSConfig {
 
     // P2 50 ms, P2* five seconds, no overall limit, server timing and strict on, wide off, no limit of notices, events without addresses.
     fn default() -> UDSConfig {
+        let channel = Channel {
+            form: Form::Plain,
+            listens: 0,
+        };
         UDSConfig {
             p2_timeout: 50,
             p2_star_timeout: 5000,
@@ -38,10 +42,7 @@ impl Default for UDSConfig {
             strict: true,
             wide: false,
             notice_limit: None,
-            channel: Channel {
-                form: Form::Plain,
-                listens: 0,
-            },
+            channel,
         }
     }
 }

@@ -3,7 +3,7 @@ use mathlib.Core.Path.{ap, ◌∙◌}
 use Rattle.requests.specs.declared.rows.Row.{Row}
 use Rattle.requests.specs.Rows.{takes_memory}
 use Rattle.calls.specs.Meaning.{lent_of}
-use Rattle.calls.proofs.Widths.{given-of, turned-by-address, turned-by-size, handed-on}
+use Rattle.calls.proofs.Widths.{given-of, turned-by-address, turned-by-size, handed-on, laid-out}
 use Rattle.calls.proofs.run_alfid.Goals as goal
 
 pub returns-in-Err : goal.returns-in-Err
@@ -31,4 +31,5 @@ returns c =
     let given = given-of x.session x.ask x.address x.size x.address_width x.size_width x.wide x.«data».now lent in
     -- Whether the call takes address and size.
     let takes = c.takes_memory-takes.ensures ∙ ap (λ (r : Row). takes_memory r.takes) c.row_of-row.ensures in
-    handed-on given takes c.in-Ok.ensures c.in-Ok-field_bytes.ensures c.part-address.ensures c.part-size.ensures c.run.ensures
+    handed-on given takes (laid-out given takes _ _ c.in-Ok.ensures) (laid-out given takes _ _ c.in-Ok-field_bytes.ensures)
+    c.part-address.ensures c.part-size.ensures c.run.ensures

@@ -7,7 +7,7 @@ use Rattle.exchange.proofs.exchange.Goals as goal
 
 pub returns-then-not-within_limits : goal.returns-then-not-within_limits
 unfolding guarded
-returns-then-not-within_limits c = record { means = rw (sym c.within_limits.ensures ∙ not-true _ c.if-not-within_limits.true-raw); outcome = tt; reply = omega arith }
+returns-then-not-within_limits c = record { means = rw (c.from.ensures, sym c.within_limits.ensures ∙ not-true _ c.if-not-within_limits.true-raw); outcome = tt; reply = omega arith }
 
 pub returns : goal.returns
 unfolding guarded

@@ -12,6 +12,6 @@ returns-in-Text c =
 
 pub returns-in-Line : goal.returns-in-Line
 returns-in-Line c =
-    rw (c.in-Line.is, ← c.from-in-Line.ensures)
+    rw c.in-Line.is
     (told_line c.args.out.now c.requires _ _ c.put_counted-n.result c.put_item-in-Line.result _ _ (omega arith)
     (omega arith) (search rules) c.put_counted-n.ensures c.put_item-in-Line.ensures)

@@ -1,4 +1,6 @@
 -- `log_line::answer_of` meets its contract.
+use Prim.Native.Nat.{ℕ}
+use lib.ListN.{replicate, length-replicate}
 use Rattle.logs.specs.Layout.{said}
 use Rattle.log_call.proofs.Headers.{bad-layout, bad-fields, sound-layout}
 use Rattle.log_line.proofs.Answering.{answered}
@@ -19,6 +21,6 @@ returns c =
     let asks = c.in_ok-ask.ensures in
     let x =
     answered l (said c.in_ok-h.h) laid.1 asks.1 c.address_of-address.ensures c.size_of-size.ensures c.data_of-data.ensures
-    c.events_of-events.ensures c.replies_of-replies.ensures c.in_session-answered.ensures
+    c.events_of-events.ensures c.replies_of-replies.ensures (c.unsent-answered.ensures (replicate 4095 0) (length-replicate {A = ℕ} 4095 0)).1
     in
     (sound-layout l laid.1 laid.0 asks.0, laid.1, x)

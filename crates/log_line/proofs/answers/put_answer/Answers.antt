@@ -48,7 +48,7 @@ returns-in-BlockLengthOverflow c =
 
 pub returns-in-Refused : goal.returns-in-Refused
 returns-in-Refused c =
-    told c.args.replies.now c.args.answer c.in-Refused.is (rw (← c.from.ensures) c.put_line-in-Refused.ensures)
+    told c.args.replies.now c.args.answer c.in-Refused.is c.put_line-in-Refused.ensures
 
 pub returns-in-PendingLimit : goal.returns-in-PendingLimit
 returns-in-PendingLimit c =

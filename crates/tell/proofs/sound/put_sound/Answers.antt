@@ -2,7 +2,6 @@
 use mathlib.Core.List.{[]}
 use mathlib.Core.Path.{◌≡◌, ◌∙◌}
 use Rattle.exchange.specs.Meaning.{outcome_of}
-use Rattle.wire.specs.Refusing.{refusal_number}
 use Rattle.logs.specs.Layout.{said}
 use Rattle.telling.specs.Telling.{by_refusal}
 use Rattle.telling.specs.Words.{declined}
@@ -12,7 +11,7 @@ use Rattle.tell.proofs.sound.put_sound.Goals as goal
 
 pub returns-in-Refused : goal.returns-in-Refused
 returns-in-Refused c =
-    let told : declined (refusal_number c.in-Refused.refusal) ≡ by_refusal (outcome_of [] c.in_session-answered.result.answer.outcome) [] = rw c.in-Refused.is in
+    let told : declined c.in-Refused.refusal ≡ by_refusal (outcome_of [] c.in_session-answered.result.answer.outcome) [] = rw c.in-Refused.is in
     saying
     (told ∙ declines c.args.log.now (said c.args.h) (c.requires.1) (c.requires.2)
     c.address_of-address.ensures c.size_of-size.ensures
