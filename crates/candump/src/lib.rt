@@ -267,7 +267,7 @@ fn after(phase: Phase, c: u8) -> Phase
 fn stored(phase: Phase, bytes: [u8; 8], c: u8) -> [u8; 8]
     ensures { result ≡ stored phase bytes c }
 {
-    // by cases, so that the bytes stay where they are where none is stored: the program takes a third less time
+    // by cases, so that the bytes stay where they are where none is stored: on long lines the program takes less time
     match phase {
         Phase::Half(_, _, n, h) => {
             let mut more = bytes;

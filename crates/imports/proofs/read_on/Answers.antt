@@ -28,7 +28,8 @@ loop-c-preserved c =
     elim c.if-c-eq10.branch [
       | then-c-eq10 w ↦
           rw (w.lent-is, w.out-is, w.reader-is, w.import-is, w.begin-reader.ensures)
-          (ap (stream begun) (rw w.ended-found.ensures at w.line_ends-import.ensures) ∙ at-lf (length l.out) x.ids.ask x.ids.answer b held w.if-c-eq10.true ∙ on)
+          (ap (stream begun) (rw w.ended-found.ensures at w.line_ends-import.ensures) ∙
+          at-lf (length l.out) x.ids.ask x.ids.answer b held w.if-c-eq10.true ∙ on)
       | else-c-eq10 w ↦
           rw (w.lent-is, w.out-is, w.reader-is, w.import-is, w.next-reader.ensures)
           (at_other (length l.out) x.ids.ask x.ids.answer b held w.if-c-eq10.false ∙ on)
